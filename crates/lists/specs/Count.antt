@@ -1,0 +1,19 @@
+-- Tests over the numbers below a bound, and sums of a list. Assumes nothing.
+use Prim.Native.Nat.{ℕ, zero, suc, _+_}
+use mathlib.Core.Bool.{Bool, true, false, _&&_, cond}
+use mathlib.Core.List.{List, [], _∷_}
+
+-- the sum of a list
+abbrev pub sum : List ℕ → ℕ
+sum [] = 0
+sum (x ∷ xs) = x + sum xs
+
+-- the test holds of every number below n
+abbrev pub every : ℕ → (ℕ → Bool) → Bool
+every zero f = true
+every (suc n) f = every n f && f n
+
+-- the least number below n of which the test holds, or n where there is none
+abbrev pub first : ℕ → (ℕ → Bool) → ℕ
+first zero f = 0
+first (suc n) f = cond (f 0) 0 (suc (first n (λ k. f (suc k))))
