@@ -1,0 +1,135 @@
+-- Laws of tests over the numbers below a bound, of the least number that passes one, and of sums: by induction over the bound or the list.
+-- Assumes nothing.
+use Prim.Native.Nat.{ℕ, zero, suc, _+_, _≤_, _<_, zero-le, suc-le-suc}
+use native.Mathlib.Nat.{not-suc-le-zero, le-of-suc-le-suc, eq-or-lt-of-le}
+use native.Mathlib.Omega.{arith}
+use mathlib.Core.Path.{_≡_, refl, sym, ap, subst, _∙_}
+use mathlib.Core.Logic.{_⊎_, inl, inr, ⊎-elim}
+use mathlib.Core.Bool.{Bool, true, false, _&&_, cond}
+use mathlib.Core.List.{List, [], _∷_}
+use lib.ListN.{length, getD, drop, set}
+use Rattle.lists.specs.Count.{sum, every, first}
+
+-- Cases
+pub lt-or-ge : (a b : ℕ) → (a < b) ⊎ (b ≤ a)
+lt-or-ge a zero = inr zero-le
+lt-or-ge zero (suc b) = inl (suc-le-suc zero-le)
+lt-or-ge (suc a) (suc b) = ⊎-elim (λ p. inl (suc-le-suc p)) (λ q. inr (suc-le-suc q)) (lt-or-ge a b)
+
+-- a test is passed or not, with the equation
+pub decided : (b : Bool) → (b ≡ true) ⊎ (b ≡ false)
+decided true = inl refl
+decided false = inr refl
+
+pub never-both : {b : Bool} → b ≡ true → b ≡ false → ⊥
+never-both {b} p q = let z : _≡_ {A = ℕ} 0 1 = ap (λ (t : Bool). cond t 0 1) (sym p) ∙ ap (λ (t : Bool). cond t 0 1) q in omega arith
+
+pub not-true-false : (b : Bool) → (b ≡ true → ⊥) → b ≡ false
+not-true-false true h = absurd (h refl)
+not-true-false false h = refl
+
+-- Conjunction
+pub and-left : (a b : Bool) → (a && b) ≡ true → a ≡ true
+and-left true b e = refl
+and-left false b e = e
+
+pub and-right : (a b : Bool) → (a && b) ≡ true → b ≡ true
+and-right true b e = e
+and-right false b e = absurd (never-both {b = false} e refl)
+
+pub and-both : (a b : Bool) → a ≡ true → b ≡ true → (a && b) ≡ true
+and-both true b p q = q
+and-both false b p q = p
+
+-- two tests that imply each other are equal
+pub same-test : (a b : Bool) → (a ≡ true → b ≡ true) → (b ≡ true → a ≡ true) → a ≡ b
+same-test true b f g = sym (f refl)
+same-test false true f g = g refl
+same-test false false f g = refl
+
+-- Every number below a bound
+pub every-at : (n : ℕ) (f : ℕ → Bool) → every n f ≡ true → (k : ℕ) → k < n → f k ≡ true
+every-at zero f e k h = absurd (not-suc-le-zero h)
+every-at (suc n) f e k h =
+    ⊎-elim
+    (λ q. subst (λ (j : ℕ). f j ≡ true) (sym q) (and-right (every n f) (f n) e))
+    (λ l. every-at n f (and-left (every n f) (f n) e) k l)
+    (eq-or-lt-of-le (le-of-suc-le-suc h))
+
+pub every-all : (n : ℕ) (f : ℕ → Bool) → ((k : ℕ) → k < n → f k ≡ true) → every n f ≡ true
+every-all zero f h = refl
+every-all (suc n) f h = and-both (every n f) (f n) (every-all n f (λ k l. h k (omega arith))) (h n (omega arith))
+
+-- The least number of which a test holds
+pub first-le : (n : ℕ) (f : ℕ → Bool) → first n f ≤ n
+first-le zero f = zero-le
+first-le (suc n) f = go (f 0) (first-le n (λ k. f (suc k)))
+  where
+    go : (b : Bool) → first n (λ k. f (suc k)) ≤ n → cond b 0 (suc (first n (λ k. f (suc k)))) ≤ suc n
+    go true ih = zero-le
+    go false ih = suc-le-suc ih
+
+pub first-holds : (n : ℕ) (f : ℕ → Bool) → first n f < n → f (first n f) ≡ true
+first-holds zero f h = absurd (not-suc-le-zero h)
+first-holds (suc n) f h = go (f 0) refl h (first-holds n (λ k. f (suc k)))
+  where
+    rest : ℕ
+    rest = first n (λ k. f (suc k))
+
+    go : (b : Bool) → f 0 ≡ b → cond b 0 (suc rest) < suc n → (rest < n → f (suc rest) ≡ true) → f (cond b 0 (suc rest)) ≡ true
+    go true e l ih = e
+    go false e l ih = ih (le-of-suc-le-suc l)
+
+pub first-before : (n : ℕ) (f : ℕ → Bool) (k : ℕ) → k < first n f → f k ≡ false
+first-before zero f k h = absurd (not-suc-le-zero h)
+first-before (suc n) f k h = go (f 0) refl k h (first-before n (λ j. f (suc j)))
+  where
+    rest : ℕ
+    rest = first n (λ j. f (suc j))
+
+    go : (b : Bool) → f 0 ≡ b → (j : ℕ) → j < cond b 0 (suc rest) → ((i : ℕ) → i < rest → f (suc i) ≡ false) → f j ≡ false
+    go true e j l ih = absurd (not-suc-le-zero l)
+    go false e zero l ih = e
+    go false e (suc j) l ih = ih j (le-of-suc-le-suc l)
+
+-- a number that passes, with none below it that does, is the least
+pub first-is : (n : ℕ) (f : ℕ → Bool) (k : ℕ) → k < n → f k ≡ true → ((j : ℕ) → j < k → f j ≡ false) → first n f ≡ k
+first-is n f k l t before =
+    ⊎-elim
+    (λ (p : first n f < k). absurd (never-both (first-holds n f (omega arith)) (before (first n f) p)))
+    (λ (p : k ≤ first n f). ⊎-elim (λ (q : k < first n f). absurd (never-both t (first-before n f k q))) (λ q. omega arith) (lt-or-ge k (first n f)))
+    (lt-or-ge (first n f) k)
+
+pub first-none : (n : ℕ) (f : ℕ → Bool) → ((j : ℕ) → j < n → f j ≡ false) → first n f ≡ n
+first-none n f none =
+    ⊎-elim
+    (λ (p : first n f < n). absurd (never-both (first-holds n f p) (none (first n f) p)))
+    (λ p. omega (arith, first-le n f))
+    (lt-or-ge (first n f) n)
+
+-- Sums of what is left of a list
+pub sum-drop-step : (a : List ℕ) (k : ℕ) → sum (drop k a) ≡ getD a k 0 + sum (drop (suc k) a)
+sum-drop-step [] zero = refl
+sum-drop-step [] (suc k) = refl
+sum-drop-step (x ∷ xs) zero = refl
+sum-drop-step (x ∷ xs) (suc k) = sum-drop-step xs k
+
+pub sum-drop-end : (a : List ℕ) (k : ℕ) → length a ≤ k → sum (drop k a) ≡ 0
+sum-drop-end [] zero h = refl
+sum-drop-end [] (suc k) h = refl
+sum-drop-end (x ∷ xs) zero h = absurd (not-suc-le-zero h)
+sum-drop-end (x ∷ xs) (suc k) h = sum-drop-end xs k (le-of-suc-le-suc h)
+
+-- one entry made one larger: the sums from it down grow by one, and those above it stay
+pub sum-drop-raised : (a : List ℕ) (i k : ℕ) → i < length a → k ≤ i → sum (drop k (set a i (suc (getD a i 0)))) ≡ suc (sum (drop k a))
+sum-drop-raised [] i k h l = absurd (not-suc-le-zero h)
+sum-drop-raised (x ∷ xs) zero zero h l = omega arith
+sum-drop-raised (x ∷ xs) zero (suc k) h l = absurd (not-suc-le-zero l)
+sum-drop-raised (x ∷ xs) (suc i) zero h l = omega (arith, sum-drop-raised xs i 0 (le-of-suc-le-suc h) zero-le)
+sum-drop-raised (x ∷ xs) (suc i) (suc k) h l = sum-drop-raised xs i k (le-of-suc-le-suc h) (le-of-suc-le-suc l)
+
+pub sum-drop-kept : (a : List ℕ) (i k v : ℕ) → i < k → sum (drop k (set a i v)) ≡ sum (drop k a)
+sum-drop-kept [] i k v l = refl
+sum-drop-kept (x ∷ xs) i zero v l = absurd (not-suc-le-zero l)
+sum-drop-kept (x ∷ xs) zero (suc k) v l = refl
+sum-drop-kept (x ∷ xs) (suc i) (suc k) v l = sum-drop-kept xs i k v (le-of-suc-le-suc l)

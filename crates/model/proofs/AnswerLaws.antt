@@ -1,0 +1,41 @@
+-- The tellings of the site book's answers are injective, so that a promise through one determines the answer: the telling's entries show the
+-- case and its values. Assumes nothing.
+use mathlib.Core.Path.{_≡_, refl, ap, ap₂}
+use Prim.Native.Nat.{ℕ, suc}
+use native.Mathlib.Omega.{arith}
+use Rattle.model.specs.Answers.{toldLevel, toldAdmission, toldRoom}
+use Rattle.model.specs.declared.LevelAnswer.{LevelAnswer}
+use Rattle.model.specs.declared.AdmissionAnswer.{AdmissionAnswer}
+use Rattle.model.specs.declared.RoomAnswer.{RoomAnswer}
+
+pub level-injective : (x y : LevelAnswer) → toldLevel x ≡ toldLevel y → x ≡ y
+level-injective (LevelAnswer.Highest l s) (LevelAnswer.Highest m t) e =
+    let p : suc (l .0) ≡ suc (m .0) = cc in
+    let q : l .0 ≡ m .0 = omega arith in
+    let r : s ≡ t = cc in
+    ap₂ (λ (n u : ℕ). LevelAnswer.Highest (record { 0 = n }) u) q r
+level-injective (LevelAnswer.Highest l s) (LevelAnswer.NoLevel t) e = let p : suc (l .0) ≡ 0 = cc in absurd (omega arith)
+level-injective (LevelAnswer.Highest l s) LevelAnswer.Refused e = cc
+level-injective (LevelAnswer.NoLevel s) (LevelAnswer.Highest m t) e = let p : 0 ≡ suc (m .0) = cc in absurd (omega arith)
+level-injective (LevelAnswer.NoLevel s) (LevelAnswer.NoLevel t) e = let r : s ≡ t = cc in ap LevelAnswer.NoLevel r
+level-injective (LevelAnswer.NoLevel s) LevelAnswer.Refused e = cc
+level-injective LevelAnswer.Refused (LevelAnswer.Highest m t) e = cc
+level-injective LevelAnswer.Refused (LevelAnswer.NoLevel t) e = cc
+level-injective LevelAnswer.Refused LevelAnswer.Refused e = refl
+
+pub admission-injective : (x y : AdmissionAnswer) → toldAdmission x ≡ toldAdmission y → x ≡ y
+admission-injective AdmissionAnswer.Admitted AdmissionAnswer.Admitted e = refl
+admission-injective AdmissionAnswer.Admitted AdmissionAnswer.Waits e = let z : _≡_ {A = ℕ} 1 0 = cc in absurd (omega arith)
+admission-injective AdmissionAnswer.Admitted AdmissionAnswer.Refused e = cc
+admission-injective AdmissionAnswer.Waits AdmissionAnswer.Admitted e = let z : _≡_ {A = ℕ} 0 1 = cc in absurd (omega arith)
+admission-injective AdmissionAnswer.Waits AdmissionAnswer.Waits e = refl
+admission-injective AdmissionAnswer.Waits AdmissionAnswer.Refused e = cc
+admission-injective AdmissionAnswer.Refused AdmissionAnswer.Admitted e = cc
+admission-injective AdmissionAnswer.Refused AdmissionAnswer.Waits e = cc
+admission-injective AdmissionAnswer.Refused AdmissionAnswer.Refused e = refl
+
+pub room-injective : (x y : RoomAnswer) → toldRoom x ≡ toldRoom y → x ≡ y
+room-injective (RoomAnswer.Room n) (RoomAnswer.Room m) e = let q : n ≡ m = cc in ap RoomAnswer.Room q
+room-injective (RoomAnswer.Room n) RoomAnswer.Refused e = cc
+room-injective RoomAnswer.Refused (RoomAnswer.Room m) e = cc
+room-injective RoomAnswer.Refused RoomAnswer.Refused e = refl

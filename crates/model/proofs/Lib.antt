@@ -1,0 +1,6 @@
+pub mod SiteLaws
+pub mod RuleLaws
+pub mod PaperLaws
+pub mod TreeLaws
+pub mod AnswerLaws
+pub mod LevelSheet

@@ -1,0 +1,110 @@
+-- The paper's Lemmas 1 and 2 and Corollaries 1 and 2, that its φ over the levels in use is document 01's lawful, and that the highest
+-- admissible level is the largest that may be admitted: from the laws of A and of the rule LIVE-P. Assumes nothing.
+use Prim.Native.Nat.{ℕ, zero, suc, _+_, _-_, _≤_, _<_}
+use native.Mathlib.Omega.{arith}
+use mathlib.Core.Path.{_≡_, refl, sym, ap, _∙_}
+use mathlib.Core.Logic.{⊎-elim, _↔_}
+use mathlib.Core.Bool.{true, false}
+use mathlib.Core.List.{List}
+use lib.ListN.{length, getD}
+use borrow.Author.Tests.{lt-ltb, le-ltb, ltb-true}
+use Rattle.lists.proofs.CountLaws.{lt-or-ge, never-both, first-le}
+use Rattle.model.specs.Site.{A, lawful, raised, may-admit, full, limit}
+use Rattle.model.specs.Paper.{φ, In-use}
+use Rattle.model.specs.Rule.{LIVE-P}
+use Rattle.model.proofs.SiteLaws.{A-step, A-end, A-raised, A-kept, lawful-at, lawful-all}
+use Rattle.model.proofs.RuleLaws.{B, LIVE-P-sound, over-limit, under-limit, free-lawful, admits-below}
+
+-- one call more raises no sum by more than one
+raised-most : (a : List ℕ) (i k : ℕ) → i < length a → A (raised a i) k ≤ suc (A a k)
+raised-most a i k long =
+    ⊎-elim (λ (p : i < k). omega (arith, A-kept a i k p)) (λ (p : k ≤ i). omega (arith, A-raised a i k long p)) (lt-or-ge i k)
+
+-- Lemma 1: "If φ holds and a clause φ′ᵢ[j] does not hold, then there is at least one active process with annotation j"
+pub lemma-1 : (T : ℕ) (a : List ℕ) (i j : ℕ) → i < length a → j < T → lawful T a ≡ true → A a T ≡ 0
+    → (A (raised a i) j ≤ T - j → ⊥) → 1 ≤ getD a j 0
+lemma-1 T a i j long below law within fails =
+    let r = raised-most a i j long in
+    let h : T - j < A (raised a i) j = ⊎-elim (λ p. p) (λ p. absurd (fails p)) (lt-or-ge (T - j) (A (raised a i) j)) in
+    omega (arith, A-step a j, above)
+  where
+    above : A a (suc j) < T - j
+    above =
+        ⊎-elim
+        (λ (p : suc j < T). omega (arith, lawful-at T a law (suc j) p))
+        (λ (p : T ≤ suc j). let e : suc j ≡ T = omega arith in omega (arith, ap (A a) e, within))
+        (lt-or-ge (suc j) T)
+
+-- Corollary 1: "there is some process with annotation at most i that is active"
+pub corollary-1 : (T : ℕ) (a : List ℕ) (i : ℕ) → T ≤ length a → i < T → lawful T a ≡ true → A a T ≡ 0
+    → lawful T (raised a i) ≡ false → (j : ℕ) × (j ≤ i) × (1 ≤ getD a j 0)
+corollary-1 T a i long below law within fails =
+    ⊎-elim
+    (λ (p : i < limit T a). absurd (never-both (free-lawful T a i below (omega arith) law (under-limit T a i below p law)) fails))
+    (λ (p : limit T a ≤ i). B LIVE-P LIVE-P-sound T a i below law within (over-limit T a i below p))
+    (lt-or-ge i (limit T a))
+
+-- Lemma 2: "If k ≥ i then φ′ₖ implies φ′ᵢ"
+pub lemma-2 : (T : ℕ) (a : List ℕ) (i k : ℕ) → k < length a → i ≤ k → lawful T (raised a k) ≡ true → lawful T (raised a i) ≡ true
+lemma-2 T a i k long h law = lawful-all T (raised a i) (λ j l. omega (arith, lawful-at T (raised a k) law j l, fewer j))
+  where
+    fewer : (j : ℕ) → A (raised a i) j ≤ A (raised a k) j
+    fewer j =
+        ⊎-elim
+        (λ (p : k < j). omega (arith, A-kept a k j p, A-kept a i j (omega arith)))
+        (λ (p : j ≤ k). omega (arith, A-raised a k j long p, raised-most a i j (omega arith)))
+        (lt-or-ge k j)
+
+-- Corollary 2: "there exists 0 ≤ i ≤ T such that all processes with annotation lower than i are enabled, and all processes with annotation
+-- at least i are disabled"
+pub corollary-2 : (T : ℕ) (a : List ℕ) → T ≤ length a → lawful T a ≡ true
+    → (m : ℕ) × (m ≤ T) × ((i : ℕ) → i < m → may-admit T a i ≡ true) × ((i : ℕ) → m ≤ i → may-admit T a i ≡ false)
+unfolding limit
+corollary-2 T a long law = (
+  limit T a,
+  first-le T (full T a),
+  (λ i h. admits-below T a i long law ∙ lt-ltb i (limit T a) h),
+  λ i h. admits-below T a i long law ∙ le-ltb i (limit T a) h,
+)
+
+-- The highest admissible level, where there is one, may be admitted, and no higher level may
+pub highest-largest : (T : ℕ) (a : List ℕ) (level : ℕ) → T ≤ length a → lawful T a ≡ true → limit T a ≡ suc level
+    → (may-admit T a level ≡ true) × ((i : ℕ) → may-admit T a i ≡ true → i ≤ level)
+highest-largest T a level long law e = (
+  admits-below T a level long law ∙ lt-ltb level (limit T a) (omega arith),
+  λ i h. let q = ltb-true i (limit T a) (sym (admits-below T a i long law) ∙ h) in omega arith,
+)
+
+-- and where it is "none", no level may be admitted
+pub highest-none : (T : ℕ) (a : List ℕ) → T ≤ length a → lawful T a ≡ true → limit T a ≡ 0 → (i : ℕ) → may-admit T a i ≡ false
+highest-none T a long law e i = admits-below T a i long law ∙ le-ltb i (limit T a) (omega arith)
+
+-- "Admission depends on T, i and that site's active counts and on nothing else"
+pub admission-alone : (T U : ℕ) (a b : List ℕ) (i j : ℕ) → T ≡ U → a ≡ b → i ≡ j → may-admit T a i ≡ may-admit U b j
+admission-alone T U a b i j p q r = cc
+
+-- where calls stand at or above k, the lowest of their levels has the same sum
+next-active : (a : List ℕ) (n k : ℕ) → length a ≤ k + n → 1 ≤ A a k → (j : ℕ) × (k ≤ j) × (1 ≤ getD a j 0) × (A a j ≡ A a k)
+next-active a zero k end some = absurd (omega (arith, A-end a k (omega arith)))
+next-active a (suc n) k end some =
+    ⊎-elim
+    (λ (p : 0 < getD a k 0). (k, omega arith, p, refl))
+    (λ (p : getD a k 0 ≤ 0).
+    let s = A-step a k in
+    let w = next-active a n (suc k) (omega arith) (omega arith) in
+    (w .0, omega (arith, w .1), w .2, omega (arith, w .3)))
+    (lt-or-ge 0 (getD a k 0))
+
+-- 01's lawful, over every level below T, is the paper's φ over the levels in use
+pub lawful-φ : (used : ℕ → Type 0) (T : ℕ) (a : List ℕ) → In-use used T a → (lawful T a ≡ true) ↔ φ used T a
+lawful-φ used T a u = (λ law k h. omega (arith, lawful-at T a law k (u .below k h)), λ p. lawful-all T a (at p))
+  where
+    at : φ used T a → (k : ℕ) → k < T → A a k + k ≤ T
+    at p k h =
+        ⊎-elim
+        (λ (q : 0 < A a k).
+        let w = next-active a (length a) k (omega arith) q in
+        let l = u .active (w .0) (w .2) in
+        omega (arith, p (w .0) l, u .below (w .0) l, w .1, w .3))
+        (λ (q : A a k ≤ 0). omega arith)
+        (lt-or-ge 0 (A a k))

@@ -1,0 +1,39 @@
+-- The level sheet of document 01: its cases marked P, in one table. Assumes nothing.
+use Prim.Native.Nat.{ℕ}
+use mathlib.Core.Path.{_≡_}
+use mathlib.Core.List.{List, [], _∷_}
+use lib.ListN.{replicate}
+use Rattle.ids.specs.Limits.{most-threads}
+use Rattle.model.specs.Site.{put}
+use Rattle.model.specs.Answers.{firmware}
+
+-- a line of the sheet
+pub data Case : Type 0 where
+  -- threads, the levels of the active calls, and the firmware's number: the highest admissible level plus 1, or 0 for none
+  site : ℕ → List ℕ → ℕ → Case
+
+-- the count of each level where these calls are active
+abbrev pub counts : List ℕ → List ℕ
+counts active = put (replicate most-threads 0) active
+
+-- what a line says of the definitions
+abbrev pub Holds : Case → Type 0
+Holds (site threads active number) = firmware threads (counts active) ≡ number
+
+abbrev pub table : List Case
+table =
+    -- T = 10, active 1 2 3 4 4 4 5 6 9: highest admissible 0
+    site 10 (1 ∷ 2 ∷ 3 ∷ 4 ∷ 4 ∷ 4 ∷ 5 ∷ 6 ∷ 9 ∷ []) 1
+    -- less the 3: 3
+    ∷ site 10 (1 ∷ 2 ∷ 4 ∷ 4 ∷ 4 ∷ 5 ∷ 6 ∷ 9 ∷ []) 4
+    -- less a 4 as well: 8
+    ∷ site 10 (1 ∷ 2 ∷ 4 ∷ 4 ∷ 5 ∷ 6 ∷ 9 ∷ []) 9
+    -- T = 3, active 1 1: highest 0, so level 2 waits
+    ∷ site 3 (1 ∷ 1 ∷ []) 1
+    -- T = 1, none active: 0
+    ∷ site 1 [] 1
+    -- T = 1, active 0: none
+    ∷ site 1 (0 ∷ []) 0
+    -- T = 64, none active: 63
+    ∷ site 64 [] 64
+    ∷ []

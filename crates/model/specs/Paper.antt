@@ -1,0 +1,14 @@
+-- The paper's own statement of the invariant: section 3.1. Assumes nothing.
+use Prim.Native.Nat.{ℕ, _-_, _≤_, _<_}
+use mathlib.Core.List.{List}
+use lib.ListN.{getD}
+use Rattle.model.specs.Site.{A}
+
+-- "for k ranging over all annotation levels in the annotated call graph": φ, the conjunction of A[k] ≤ T - k over the levels in use
+abbrev pub φ : (ℕ → Type 0) → ℕ → List ℕ → Type 0
+φ used T a = (k : ℕ) → used k → A a k ≤ T - k
+
+-- the levels of a call graph as file check 6 leaves them, below T, and every active call has one of them
+pub record In-use (used : ℕ → Type 0) (T : ℕ) (a : List ℕ) : Type 0 where
+  pub below : (k : ℕ) → used k → k < T
+  pub active : (k : ℕ) → 1 ≤ getD a k 0 → used k

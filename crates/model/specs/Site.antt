@@ -1,0 +1,52 @@
+-- The site book: document 01, "The site book", and section 3.1 of the paper.
+-- `T` is the number of threads of the site, and `a` lists its active calls by level: `getD a k 0` is a[k]. Assumes nothing.
+use Prim.Native.Nat.{ℕ, suc, _-_}
+use mathlib.Core.Bool.{Bool, not, _&&_, _||_}
+use mathlib.Core.List.{List, [], _∷_}
+use lib.ListN.{length, getD, drop, set}
+use lib.Dec.{leb, ltb, eqb}
+use Rattle.lists.specs.Count.{sum, every, first}
+use Rattle.ids.specs.Limits.{most-threads}
+
+-- "A[k] the sum of a[j] for all j at or above k"
+unfoldable pub A : List ℕ → ℕ → ℕ
+A a k = sum (drop k a)
+
+-- "The site is lawful when A[k] is at most T - k for every k from 0 to T - 1"
+unfoldable pub lawful : ℕ → List ℕ → Bool
+lawful T a = every T (λ k. leb (A a k) (T - k))
+
+-- "with a[i] one larger"
+unfoldable pub raised : List ℕ → ℕ → List ℕ
+raised a i = set a i (suc (getD a i 0))
+
+-- one call more of each listed level
+abbrev pub put : List ℕ → List ℕ → List ℕ
+put a [] = a
+put a (l ∷ ls) = put (raised a l) ls
+
+-- "A call of level i, below T, may be admitted exactly when the site stays lawful with a[i] one larger"
+unfoldable pub may-admit : ℕ → List ℕ → ℕ → Bool
+may-admit T a i = ltb i T && lawful T (raised a i)
+
+-- "A[k] = T - k (level k is then full)"
+unfoldable pub full : ℕ → List ℕ → ℕ → Bool
+full T a k = eqb (A a k) (T - k)
+
+-- "The highest admissible level is one less than the lowest k below T with A[k] = T - k, and T - 1 if no level is full."
+-- This is that level plus 1, and 0 for "none": how many levels are admissible, and the firmware's number
+unfoldable pub limit : ℕ → List ℕ → ℕ
+limit T a = first T (full T a)
+
+-- "The room at level k, for the status page, is T - k - A[k]"
+unfoldable pub room : ℕ → List ℕ → ℕ → ℕ
+room T a k = T - k - A a k
+
+-- "threads 0 or above 64, length not 64, a count above zero at a level at or above T, or a site that is not lawful"
+unfoldable pub refused : ℕ → List ℕ → Bool
+refused T a =
+    eqb T 0
+    || ltb most-threads T
+    || not (eqb (length a) most-threads)
+    || not (eqb (A a T) 0)
+    || not (lawful T a)
