@@ -17,3 +17,7 @@ nodes = 64
 -- "0 means no ticket"
 abbrev pub no-ticket : ℕ
 no-ticket = 0
+
+-- "At most 256 call edges"
+abbrev pub most-edges : ℕ
+most-edges = 256

@@ -4,4 +4,7 @@ pub mod Rule
 pub mod Paper
 pub mod Tree
 pub mod Answers
+pub mod House
+pub mod Plan
+pub mod Reading
 pub mod LevelSheet
