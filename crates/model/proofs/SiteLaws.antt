@@ -5,13 +5,14 @@ use native.Mathlib.Nat.{add-zero, add-suc, add-sub-of-le}
 use native.Mathlib.Omega.{arith}
 use mathlib.Core.Path.{_≡_, ap, subst}
 use mathlib.Core.Logic.{⊎-elim}
-use mathlib.Core.Bool.{true}
+use mathlib.Core.Bool.{true, false, not, _||_}
 use mathlib.Core.List.{List}
 use lib.ListN.{length, getD, length-set}
-use lib.Dec.{leb}
-use borrow.Author.Tests.{leb-true, le-leb, eqb-true, eq-eqb}
-use Rattle.lists.proofs.CountLaws.{every-at, every-all, sum-drop-step, sum-drop-end, sum-drop-raised, sum-drop-kept, lt-or-ge}
-use Rattle.model.specs.Site.{A, lawful, raised, full}
+use lib.Dec.{leb, ltb, eqb}
+use borrow.Author.Tests.{leb-true, le-leb, ltb-false, eqb-true, eqb-false, eq-eqb}
+use Rattle.lists.proofs.CountLaws.{every-at, every-all, sum-drop-step, sum-drop-end, sum-drop-raised, sum-drop-kept, lt-or-ge, or-left, or-right, not-false-true}
+use Rattle.model.specs.Site.{A, lawful, raised, full, refused}
+use Rattle.ids.specs.Limits.{most-threads}
 
 -- The laws of A
 
@@ -73,3 +74,38 @@ full-is T a k h e = omega (arith, eqb-true (A a k) (T - k) e)
 pub is-full : (T : ℕ) (a : List ℕ) (k : ℕ) → A a k + k ≡ T → full T a k ≡ true
 unfolding full
 is-full T a k e = eq-eqb (A a k) (T - k) (omega arith)
+
+-- A site that is not refused
+pub record Accepted (T : ℕ) (a : List ℕ) : Type 0 where
+  pub some : 0 < T
+  pub most : T ≤ most-threads
+  pub long : length a ≡ most-threads
+  pub within : A a T ≡ 0
+  pub law : lawful T a ≡ true
+
+pub accepted : (T : ℕ) (a : List ℕ) → refused T a ≡ false → Accepted T a
+unfolding refused
+accepted T a e =
+    let none = eqb T 0 in
+    let many = ltb most-threads T in
+    let short = not (eqb (length a) most-threads) in
+    let over = not (eqb (A a T) 0) in
+    let e₃ = or-left (none || many || short || over) (not (lawful T a)) e in
+    let e₂ = or-left (none || many || short) over e₃ in
+    let e₁ = or-left (none || many) short e₂ in
+    let apart = eqb-false T 0 (or-left none many e₁) in
+    record {
+      some = omega arith;
+      most = ltb-false most-threads T (or-right none many e₁);
+      long = eqb-true (length a) most-threads (not-false-true (eqb (length a) most-threads) (or-right (none || many) short e₂));
+      within = eqb-true (A a T) 0 (not-false-true (eqb (A a T) 0) (or-right (none || many || short) over e₃));
+      law = not-false-true (lawful T a) (or-right (none || many || short || over) (not (lawful T a)) e);
+    }
+
+-- no level at or above T has a call, and no level has more calls than threads
+pub level-empty : (T : ℕ) (a : List ℕ) (k : ℕ) → A a T ≡ 0 → T ≤ k → A a k ≡ 0
+level-empty T a k within h = omega (arith, A-down a T k h)
+
+pub level-most : (T : ℕ) (a : List ℕ) (k : ℕ) → A a T ≡ 0 → lawful T a ≡ true → A a k ≤ T
+level-most T a k within law =
+    ⊎-elim (λ (p : k < T). omega (arith, lawful-at T a law k p)) (λ (p : T ≤ k). omega (arith, level-empty T a k within p)) (lt-or-ge k T)

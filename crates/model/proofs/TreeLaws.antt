@@ -1,7 +1,9 @@
 -- The tree of counts, shown once over the height: a size is a difference of two sums A, a slack is the tightest of its levels, and so the
 -- walk finds the lowest full level and stands on one tree node for each height. Assumes nothing.
 use Prim.Native.Nat.{ℕ, zero, suc, _+_, _-_, _^_, _≤_, _<_, min, zero-le}
+use native.Mathlib.Nat.{le-refl}
 use native.Mathlib.Numerals.{add-one}
+use lib.Pow.{pow-pos}
 use native.Mathlib.Omega.{arith}
 use mathlib.Core.Path.{_≡_, refl, sym, ap, subst, _∙_}
 use mathlib.Core.Logic.{⊎-elim}
@@ -12,8 +14,9 @@ use lib.Dec.{ltb}
 use borrow.Author.Tests.{lt-ltb, le-ltb, eq-eqb, eqb-true}
 use Rattle.lists.proofs.CountLaws.{lt-or-ge, never-both, first-is, first-none, not-true-false}
 use Rattle.model.specs.Site.{A, lawful, full, limit}
-use Rattle.model.specs.Tree.{size, slack, no-limit, up-to, is, walk, Walked, onward, from-root, root-height}
-use Rattle.model.proofs.SiteLaws.{A-step, A-end, lawful-at, full-is, is-full}
+use Rattle.model.specs.declared.Walked.{Walked}
+use Rattle.model.specs.Tree.{size, slack, no-limit, up-to, is, walk, onward, from-root, root-height}
+use Rattle.model.proofs.SiteLaws.{A-step, A-end, A-down, lawful-at, full-is, is-full}
 
 -- a tree node's size is what its levels add to A
 pub size-is : (a : List ℕ) (h k : ℕ) → A a k ≡ size a h k + A a (k + 2 ^ h)
@@ -109,6 +112,22 @@ module _ (T : ℕ) (a : List ℕ) (law : lawful T a ≡ true) where
   exact h k s e =
       ⊎-elim
       (λ (p : k < T). let t = slack-tight h k p in let q : t .0 ≡ s = cc in omega (arith, enough h k (t .0) (t .2)))
+      (λ (p : T ≤ k). let n = slack-none T a h k p in let z : _≡_ {A = ℕ} 0 1 = cc in absurd (omega arith))
+      (lt-or-ge k T)
+
+  -- a tree node below T has a limit
+  pub limited : (h k : ℕ) → k < T → (s : ℕ) × (slack T a h k ≡ up-to s)
+  limited h k p = let t = slack-tight h k p in (t .0, t .1)
+
+  -- and no slack is above T
+  pub slack-most : (h k s : ℕ) → slack T a h k ≡ up-to s → s ≤ T
+  slack-most h k s e =
+      ⊎-elim
+      (λ (p : k < T).
+      let t = slack-tight h k p in
+      let q : t .0 ≡ s = cc in
+      let some = pow-pos h in
+      omega (arith, t .2 .bound k (le-refl k) (omega arith) p, A-down a k (k + 2 ^ h) (omega arith)))
       (λ (p : T ≤ k). let n = slack-none T a h k p in let z : _≡_ {A = ℕ} 0 1 = cc in absurd (omega arith))
       (lt-or-ge k T)
 

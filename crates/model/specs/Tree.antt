@@ -5,6 +5,7 @@ use mathlib.Core.Bool.{Bool, false, cond}
 use mathlib.Core.List.{List}
 use lib.ListN.{getD}
 use lib.Dec.{ltb, eqb}
+use Rattle.model.specs.declared.Walked.{Walked}
 
 -- "Each has a size (active calls in it)"
 unfoldable pub size : List ℕ → ℕ → ℕ → ℕ
@@ -36,11 +37,6 @@ slack T a (suc h) k = smaller (slack T a h (k + 2 ^ h)) (less (slack T a h k) (s
 abbrev pub is : Slack → ℕ → Bool
 is no-limit n = false
 is (up-to s) n = eqb s n
-
--- where a walk ends, and how many tree nodes it stood on
-pub record Walked : Type 0 where
-  pub leaf : ℕ
-  pub stood : ℕ
 
 -- the walk from one tree node further up
 abbrev pub onward : Walked → Walked

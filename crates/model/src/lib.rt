@@ -2,6 +2,12 @@
 // theorems in proofs/. No code.
 use ids::Level;
 
+// Where a walk down the tree of counts ends, and how many tree nodes it stood on.
+pub struct Walked {
+    pub leaf: u8,
+    pub stood: u8,
+}
+
 // The highest admissible level at a site, and the tree nodes that the walk stood on.
 pub enum LevelAnswer {
     Highest(Level, u8),

@@ -1,0 +1,3 @@
+mod WalkLaws
+mod BuildLaws
+mod DescentLaws
