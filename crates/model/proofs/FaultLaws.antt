@@ -32,7 +32,12 @@ next-end rest = simp (le-leb 0 (length rest) (omega arith))
 next-strange : (kind : ℕ) (rest : List ℕ) → (kind < 1) ⊎ (4 < kind) → next plan-kinds (kind ∷ rest) ≡ unknown
 unfolding next
 next-strange kind rest out =
-    simp (differs 1 (omega arith) (omega arith), differs 2 (omega arith) (omega arith), differs 3 (omega arith) (omega arith), differs 4 (omega arith) (omega arith))
+    simp (
+      differs 1 (omega arith) (omega arith),
+      differs 2 (omega arith) (omega arith),
+      differs 3 (omega arith) (omega arith),
+      differs 4 (omega arith) (omega arith),
+    )
   where
     differs : (k : ℕ) → 1 ≤ k → k ≤ 4 → eqb kind k ≡ false
     differs k low high = ne-eqb kind k (λ e. ⊎-elim (λ (p : kind < 1). omega arith) (λ (p : 4 < kind). omega arith) out)
@@ -47,7 +52,7 @@ module _ (levels : Levels) (rs : List Record) where
   unfolding fault-at next
   case-fault (no-kind e q) = rw (e, q)
   case-fault (strange-kind kind rest e out q) = rw (e, q, next-strange kind rest out)
-  case-fault (short-body kind size rest e known h q) = rw (e, q, next-short kind size rest known h)
+  case-fault (short-body kind size rest e given h q) = rw (e, q, next-short kind size rest given h)
   case-fault (of-record r rest e q) = let w = next-record r rest in rw (e, w .2, w .3, q)
   case-fault (of-plan rest e q) = rw (e, next-end rest, q)
 
@@ -92,11 +97,11 @@ lone n (t ∷ ts) = cond (eqb (t .1) n) (absent n ts) (lone n ts)
 
 absent-never : (n : ℕ) (ts : List (Bool × ℕ)) → absent n ts ≡ true → first-fault ts ≡ n → ⊥
 absent-never n [] a e = eqb-false 0 n (not-true (eqb 0 n) a) e
-absent-never n (t ∷ ts) a e = go (t .0) refl e (absent-never n ts (and-right (not (eqb (t .1) n)) (absent n ts) a))
+absent-never n (t ∷ ts) a e = go (t .0) e (absent-never n ts (and-right (not (eqb (t .1) n)) (absent n ts) a))
   where
-    go : (b : Bool) → t .0 ≡ b → cond b (first-fault ts) (t .1) ≡ n → (first-fault ts ≡ n → ⊥) → ⊥
-    go true p q never = never q
-    go false p q never = eqb-false (t .1) n (not-true (eqb (t .1) n) (and-left (not (eqb (t .1) n)) (absent n ts) a)) q
+    go : (b : Bool) → cond b (first-fault ts) (t .1) ≡ n → (first-fault ts ≡ n → ⊥) → ⊥
+    go true q never = never q
+    go false q never = eqb-false (t .1) n (not-true (eqb (t .1) n) (and-left (not (eqb (t .1) n)) (absent n ts) a)) q
 
 -- the first test that fails decides
 pub first-fault-is : (n : ℕ) (ts : List (Bool × ℕ)) → lone n ts ≡ true → (first-fault ts ≡ n) ↔ Given n ts

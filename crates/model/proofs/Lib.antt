@@ -6,3 +6,4 @@ pub mod AnswerLaws
 pub mod LevelSheet
 pub mod FaultLaws
 pub mod ReadingLaws
+pub mod RecordLaws

@@ -32,14 +32,15 @@ fault-at levels rs tail = fault-in levels rs (next plan-kinds tail)
 
 -- When it is given
 
--- the cases of what stands behind the records rs, each with its number; they share no bytes
+-- the cases of what stands behind the records rs, each with its number
 pub data Fault (levels : Levels) (rs : List Record) (tail : List ℕ) (n : ℕ) : Type 0 where
   -- 1, "the input ends where a kind byte .. is due"
   no-kind : tail ≡ [] → n ≡ 1 → Fault levels rs tail n
   -- 2, "the kind is not 1 to 4"
   strange-kind : (kind : ℕ) (rest : List ℕ) → tail ≡ kind ∷ rest → (kind < 1) ⊎ (4 < kind) → n ≡ 2 → Fault levels rs tail n
   -- 1, "or a body byte is due"
-  short-body : (kind size : ℕ) (rest : List ℕ) → tail ≡ kind ∷ rest → plan-kinds kind ≡ some size → length rest < size → n ≡ 1 → Fault levels rs tail n
+  short-body : (kind size : ℕ) (rest : List ℕ)
+      → tail ≡ kind ∷ rest → plan-kinds kind ≡ some size → length rest < size → n ≡ 1 → Fault levels rs tail n
   -- 3, 4, 5, 6, 9, or 0
   of-record : (r : Record) (rest : List ℕ) → tail ≡ bytes-of r ++ rest → record-fault levels rs r ≡ n → Fault levels rs tail n
   -- 7, 8, or 0

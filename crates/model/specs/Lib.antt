@@ -8,4 +8,5 @@ pub mod House
 pub mod Plan
 pub mod Reading
 pub mod Faults
+pub mod Records
 pub mod LevelSheet
