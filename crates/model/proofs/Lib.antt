@@ -4,3 +4,6 @@ pub mod PaperLaws
 pub mod TreeLaws
 pub mod AnswerLaws
 pub mod LevelSheet
+pub mod FaultLaws
+pub mod ReadingLaws
+pub mod RecordLaws

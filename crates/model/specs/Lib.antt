@@ -7,4 +7,6 @@ pub mod Answers
 pub mod House
 pub mod Plan
 pub mod Reading
+pub mod Faults
+pub mod Records
 pub mod LevelSheet
