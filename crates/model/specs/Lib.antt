@@ -9,4 +9,5 @@ pub mod Plan
 pub mod Reading
 pub mod Faults
 pub mod Records
+pub mod PlanValue
 pub mod LevelSheet

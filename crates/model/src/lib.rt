@@ -1,6 +1,8 @@
 // The meaning of what the library answers, for a reader to believe: the types that everything speaks of, their definitions in specs/ and the
 // theorems in proofs/. No code.
 use ids::Level;
+use ids::Node;
+use ids::Site;
 
 // Where a walk down the tree of counts ends, and how many tree nodes it stood on.
 pub struct Walked {
@@ -26,4 +28,52 @@ pub enum AdmissionAnswer {
 pub enum RoomAnswer {
     Room(u8),
     Refused,
+}
+
+// A plan by its numbers: the threads of each site, 0 where it has no record; the site of each node, `Plan::NOWHERE` where it has no record, and
+// its level; and the call edges in their order. What no record has set is as in the empty plan.
+pub struct Plan {
+    pub threads: [u8; Site::COUNT],
+    pub places: [u8; Node::COUNT],
+    pub levels: [u8; Node::COUNT],
+    pub callers: [u8; Node::EDGES],
+    pub callees: [u8; Node::EDGES],
+    pub edges: usize,
+}
+
+impl Plan {
+    pub const NOWHERE: u8 = 255;
+}
+
+// A record of a plan file.
+pub enum PlanRecord {
+    Site(Site, u8),
+    Node(Node, Site, Level),
+    Edge(Node, Node),
+    End,
+}
+
+// Why a plan is refused: the numbers 1 to 9 of document 01.
+pub enum PlanRefusal {
+    InputEnds,
+    UnknownKind,
+    NotRising,
+    OutOfRange,
+    NotListed,
+    LevelTooHigh,
+    Loop,
+    SelfDependence,
+    TooManyEdges,
+}
+
+// The bytes used, or the refusal and its offset.
+pub enum ReadAnswer {
+    Accepted(usize),
+    Refused(PlanRefusal, usize),
+}
+
+// What reading a plan answers; a refused reading hands back the empty plan.
+pub struct PlanRead {
+    pub answer: ReadAnswer,
+    pub plan: Plan,
 }

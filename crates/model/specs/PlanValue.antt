@@ -1,0 +1,106 @@
+-- A plan as the value that holds it: the records stored one after the other in the empty plan, so that each plan has one value.
+-- Assumes nothing.
+use Prim.Native.Nat.{ℕ, zero, suc, _+_, min}
+use mathlib.Core.Bool.{cond}
+use mathlib.Core.List.{List, [], _∷_}
+use lib.ListN.{getD, replicate, set}
+use lib.Dec.{eqb, ltb}
+use Rattle.ids.specs.Limits.{sites, nodes, most-edges}
+use Rattle.ids.specs.Made.{Told}
+use Rattle.model.specs.Plan.{Record, site, node, edge}
+use Rattle.model.specs.Reading.{Reading, accepted, refused}
+use Rattle.model.specs.declared.Plan.{Plan}
+use Rattle.model.specs.declared.PlanRefusal.{PlanRefusal}
+use Rattle.model.specs.declared.ReadAnswer.{ReadAnswer}
+
+-- a node that has no record is nowhere
+abbrev pub nowhere : ℕ
+nowhere = 255
+
+unfoldable pub empty-plan : Plan
+empty-plan =
+    record {
+      threads = replicate sites 0;
+      places = replicate nodes nowhere;
+      levels = replicate nodes 0;
+      callers = replicate most-edges 0;
+      callees = replicate most-edges 0;
+      edges = 0;
+    }
+
+abbrev pub stored : Plan → Record → Plan
+stored p (site s t) =
+    record { threads = set (p .threads) s t; places = p .places; levels = p .levels; callers = p .callers; callees = p .callees; edges = p .edges }
+stored p (node n s l) =
+    record {
+      threads = p .threads;
+      places = set (p .places) n s;
+      levels = set (p .levels) n l;
+      callers = p .callers;
+      callees = p .callees;
+      edges = p .edges;
+    }
+stored p (edge c d) =
+    record {
+      threads = p .threads;
+      places = p .places;
+      levels = p .levels;
+      callers = set (p .callers) (p .edges) c;
+      callees = set (p .callees) (p .edges) d;
+      edges = p .edges + 1;
+    }
+
+-- the value of a plan, its records stored in the file's order
+unfoldable pub value : List Record → Plan
+value [] = empty-plan
+value (r ∷ rs) = stored (value rs) r
+
+-- the numbers of document 01
+abbrev pub refusal-number : PlanRefusal → ℕ
+refusal-number PlanRefusal.InputEnds = 1
+refusal-number PlanRefusal.UnknownKind = 2
+refusal-number PlanRefusal.NotRising = 3
+refusal-number PlanRefusal.OutOfRange = 4
+refusal-number PlanRefusal.NotListed = 5
+refusal-number PlanRefusal.LevelTooHigh = 6
+refusal-number PlanRefusal.Loop = 7
+refusal-number PlanRefusal.SelfDependence = 8
+refusal-number PlanRefusal.TooManyEdges = 9
+
+-- the refusal's number, or 0, and then the offset or the bytes used
+abbrev pub toldRead : ReadAnswer → Told
+toldRead (ReadAnswer.Accepted used) = 0 ∷ used ∷ []
+toldRead (ReadAnswer.Refused why offset) = refusal-number why ∷ offset ∷ []
+
+-- what a reading tells, and the plan that it hands back: "a refused plan gives back the empty plan"
+abbrev pub reading-told : Reading → Told
+reading-told (accepted rs used) = 0 ∷ used ∷ []
+reading-told (refused number offset) = number ∷ offset ∷ []
+
+abbrev pub reading-plan : Reading → Plan
+reading-plan (accepted rs used) = value rs
+reading-plan (refused number offset) = empty-plan
+
+-- The records that a plan's value holds, whoever made it: its sites, nodes and edges in the order of their numbers, the latest first. A site has a
+-- record where its threads are not 0, and a node where its site is below 16
+
+abbrev pub site-records : List ℕ → ℕ → List Record
+site-records threads zero = []
+site-records threads (suc s) =
+    cond (eqb (getD threads s 0) 0) (site-records threads s) (site s (getD threads s 0) ∷ site-records threads s)
+
+abbrev pub node-records : List ℕ → List ℕ → ℕ → List Record → List Record
+node-records places levels zero rs = rs
+node-records places levels (suc n) rs =
+    cond (ltb (getD places n nowhere) sites)
+    (node n (getD places n nowhere) (getD levels n 0) ∷ node-records places levels n rs)
+    (node-records places levels n rs)
+
+abbrev pub edge-records : List ℕ → List ℕ → ℕ → List Record → List Record
+edge-records callers callees zero rs = rs
+edge-records callers callees (suc i) rs = edge (getD callers i 0) (getD callees i 0) ∷ edge-records callers callees i rs
+
+unfoldable pub records-of : Plan → List Record
+records-of p =
+    edge-records (p .callers) (p .callees) (min (p .edges) most-edges)
+    (node-records (p .places) (p .levels) nodes (site-records (p .threads) sites))
