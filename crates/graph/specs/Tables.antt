@@ -8,7 +8,7 @@ use lib.Dec.{ltb, eqb}
 use lib.ListN.{length, getD}
 use Rattle.ids.specs.Limits.{nodes}
 
--- the byte at a place is not 0
+-- a place is lit where its byte is not 0
 abbrev pub lit : List ℕ → ℕ → Bool
 lit cells x = not (eqb (getD cells x 0) 0)
 

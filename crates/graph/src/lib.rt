@@ -121,9 +121,9 @@ fn meets_back(calls: &[u8], reach: &[u8]) -> bool
 pub fn circular(calls: Table, steps: Table) -> bool
     ensures { λ r. ⌜ (r ≡ true) ↔ ((n : ℕ) × Depends (on (calls .cells)) (on (steps .cells)) n n) ⌝ }
 {
-    let reach = reached(calls, steps).cells;
+    let paths = reached(calls, steps).cells;
     let edges = calls.cells;
-    meets_back(&edges, &reach)
+    meets_back(&edges, &paths)
 }
 
 // The dependences: a path to a call edge, the edge, and a path on from it.

@@ -33,6 +33,19 @@ pub reach-more : {s t : ℕ → ℕ → Bool} → ((n m : ℕ) → T (s n m) →
 reach-more more stay = stay
 reach-more more (go {n = n} {m = m} e p) = go (more n m e) (reach-more more p)
 
+-- a dependence of two relations is one of any two that hold them
+pub depends-more : {c s d t : ℕ → ℕ → Bool} → ((n m : ℕ) → T (c n m) → T (d n m)) → ((n m : ℕ) → T (s n m) → T (t n m)) →
+    {n m : ℕ} → Depends c s n m → Depends d t n m
+depends-more {c} {s} {d} {t} calls steps (by-call {n = n} {m = m} e p) = by-call (calls n m e) (reach-more each p)
+  where
+    each : (n m : ℕ) → T (either c s n m) → T (either d t n m)
+    each n m h =
+        ⊎-elim
+        (λ a. or-left (d n m) (t n m) (calls n m a))
+        (λ b. or-right (d n m) (t n m) (steps n m b))
+        (or-cases (c n m) (s n m) h)
+depends-more calls steps (by-site {n = n} {m = m} e d) = by-site (steps n m e) (depends-more calls steps d)
+
 module _ (s : ℕ → ℕ → Bool) where
   -- `via` is sound: where it holds there is a path
   pub via-sound : (ks : List ℕ) {n m : ℕ} → T (via s ks n m) → Reach s n m
