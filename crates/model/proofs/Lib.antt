@@ -3,7 +3,8 @@ pub mod RuleLaws
 pub mod PaperLaws
 pub mod TreeLaws
 pub mod AnswerLaws
-pub mod LevelSheet
+pub mod GraphLaws
 pub mod FaultLaws
 pub mod ReadingLaws
 pub mod RecordLaws
+pub mod LevelSheet

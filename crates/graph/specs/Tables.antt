@@ -1,0 +1,23 @@
+-- A table of bytes, one for each ordered pair of nodes, read as a relation on nodes. Assumes nothing.
+use Prim.Native.Nat.{ℕ, _+_, _*_, _<_, _≤_}
+use mathlib.Core.Path.{_≡_}
+use mathlib.Core.Bool.{Bool, not, _&&_}
+use mathlib.Core.List.{List}
+use mathlib.Core.Logic.{_↔_}
+use lib.Dec.{ltb, eqb}
+use lib.ListN.{length, getD}
+use Rattle.ids.specs.Limits.{nodes}
+
+-- a place is lit where its byte is not 0
+abbrev pub lit : List ℕ → ℕ → Bool
+lit cells x = not (eqb (getD cells x 0) 0)
+
+-- the pair (n, m) stands at 64 n + m, and is in the relation where its byte is not 0
+unfoldable pub on : List ℕ → ℕ → ℕ → Bool
+on cells n m = ltb m nodes && lit cells (nodes * n + m)
+
+-- a table that tells a relation: a byte for each pair, 1 where the pair is in the relation, and else 0
+pub record Tells (cells : List ℕ) (relation : ℕ → ℕ → Type 0) : Type 0 where
+  pub long : length cells ≡ nodes * nodes
+  pub small : (x : ℕ) → getD cells x 0 ≤ 1
+  pub told : (n m : ℕ) → n < nodes → m < nodes → (getD cells (nodes * n + m) 0 ≡ 1) ↔ relation n m
