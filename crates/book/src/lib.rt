@@ -98,17 +98,17 @@ pub fn admission(threads: u8, counts: &[u8], asked: Level) -> AdmissionAnswer
 }
 
 // The status page's figure for a level.
-pub fn room(threads: u8, counts: &[u8], asked: Level) -> RoomAnswer
-    ensures { λ r. ⌜ toldRoom r ≡ room-answer threads (now (counts .entry)) (asked .0) ⌝ }
+pub fn room(threads: u8, counts: &[u8], wanted: Level) -> RoomAnswer
+    ensures { λ r. ⌜ toldRoom r ≡ room-answer threads (now (counts .entry)) (wanted .0) ⌝ }
 {
     if !sound(threads, counts) {
         return RoomAnswer::Refused;
     }
-    if threads <= asked.0 {
+    if threads <= wanted.0 {
         return RoomAnswer::Refused;
     }
-    let active = calls_from(asked.0 as usize, counts);
-    RoomAnswer::Room(((threads - asked.0) as usize - active) as u8)
+    let active = calls_from(wanted.0 as usize, counts);
+    RoomAnswer::Room(((threads - wanted.0) as usize - active) as u8)
 }
 
 // The level answer for the switch's C firmware: the highest admissible level plus 1, 0 for none, or 255 as a refusal.

@@ -55,6 +55,15 @@ pub not-false-true : (b : Bool) → not b ≡ false → b ≡ true
 not-false-true true e = refl
 not-false-true false e = absurd (never-both {b = true} refl e)
 
+-- what a negated answer says of the test that it answers
+pub denied : (b r : Bool) → b ≡ r → not b ≡ true → r ≡ false
+denied b true e n = absurd (never-both {b = false} (sym (ap not e) ∙ n) refl)
+denied b false e n = refl
+
+pub granted : (b r : Bool) → b ≡ r → not b ≡ false → r ≡ true
+granted b true e n = refl
+granted b false e n = absurd (never-both {b = true} refl (sym (ap not e) ∙ n))
+
 -- two tests that imply each other are equal
 pub same-test : (a b : Bool) → (a ≡ true → b ≡ true) → (b ≡ true → a ≡ true) → a ≡ b
 same-test true b f g = sym (f refl)
@@ -147,3 +156,9 @@ sum-drop-kept [] i k v l = refl
 sum-drop-kept (x ∷ xs) i zero v l = absurd (not-suc-le-zero l)
 sum-drop-kept (x ∷ xs) zero (suc k) v l = refl
 sum-drop-kept (x ∷ xs) (suc i) (suc k) v l = sum-drop-kept xs i k v (le-of-suc-le-suc l)
+
+-- within a list the value given for its end does not matter
+pub getD-inside : {A : Type 0} (l : List A) (i : ℕ) (d e : A) → i < length l → getD l i d ≡ getD l i e
+getD-inside [] i d e h = absurd (not-suc-le-zero h)
+getD-inside (x ∷ xs) zero d e h = refl
+getD-inside (x ∷ xs) (suc i) d e h = getD-inside xs i d e (le-of-suc-le-suc h)

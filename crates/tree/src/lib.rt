@@ -20,6 +20,8 @@ const NO_LIMIT: u8 = 255;
 const ROOT: usize = 1;
 
 const ROOT_HEIGHT: u8 = 6;
+// The tree nodes that a walk stands on which does not leave the root.
+const ROOT_ALONE: u8 = 1;
 
 // Sets the leaves of the levels below `threads`.
 fn leaves(threads: u8, counts: &[u8], sizes: &mut [u8], slacks: &mut [u8])
@@ -117,7 +119,7 @@ pub fn descend(threads: u8, counts: &[u8]) -> Walked
     if slacks[ROOT] > 0 {
         return Walked {
             leaf: threads,
-            stood: 1,
+            stood: ROOT_ALONE,
         };
     }
     walk(&sizes, &slacks, ROOT_HEIGHT, ROOT, 0)

@@ -18,12 +18,12 @@ sound-requires c κs = search needs
 returns : tie.Need-returns
 returns c =
     let s = c .before .before .before in
-    room-refused (s .args .threads) (now (s .args .counts)) (when-unsound _ _ (c .before .sound .ensures) (c .if1 .taken)) (s .args .asked .0)
+    room-refused (s .args .threads) (now (s .args .counts)) (when-unsound _ _ (c .before .sound .ensures) (c .if1 .taken)) (s .args .wanted .0)
 
 returns-2 : tie.Need-returns-2
 returns-2 c =
     let s = c .before .before .before .before .before in
-    room-beyond (s .args .threads) (now (s .args .counts)) (when-sound _ _ (c .before .before .before .sound .ensures) (c .before .before .if1 .left)) (s .args .asked .0) (c .if2 .taken)
+    room-beyond (s .args .threads) (now (s .args .counts)) (when-sound _ _ (c .before .before .before .sound .ensures) (c .before .before .if1 .left)) (s .args .wanted .0) (c .if2 .taken)
 
 cast-calls-from : tie.Need-cast-calls-from
 cast-calls-from c = search needs
@@ -44,7 +44,7 @@ sub-t9 : tie.Need-sub-t9
 sub-t9 c =
     let s = c .before .before .before .before .before .before .before .before in
     let site = accepted (s .args .threads) (now (s .args .counts)) (when-sound _ _ (c .before .before .before .before .before .before .sound .ensures) (c .before .before .before .before .before .if1 .left)) in
-    let law = lawful-at (s .args .threads) (now (s .args .counts)) (site .law) (s .args .asked .0) (c .before .before .before .if2 .left) in
+    let law = lawful-at (s .args .threads) (now (s .args .counts)) (site .law) (s .args .wanted .0) (c .before .before .before .if2 .left) in
     omega (arith, law, c .before .calls-from .ensures)
 
 cast-t10 : tie.Need-cast-t10
@@ -54,8 +54,8 @@ returns-3 : tie.Need-returns-3
 unfolding room
 returns-3 c =
     let s = c .before .before .before .before .before .before .before .before in
-    ap (λ (n : ℕ). 0 ∷ (s .args .threads - s .args .asked .0 - n) ∷ []) (c .before .calls-from .ensures)
-    ∙ room-below (s .args .threads) (now (s .args .counts)) (when-sound _ _ (c .before .before .before .before .before .before .sound .ensures) (c .before .before .before .before .before .if1 .left)) (s .args .asked .0) (c .before .before .before .if2 .left)
+    ap (λ (n : ℕ). 0 ∷ (s .args .threads - s .args .wanted .0 - n) ∷ []) (c .before .calls-from .ensures)
+    ∙ room-below (s .args .threads) (now (s .args .counts)) (when-sound _ _ (c .before .before .before .before .before .before .sound .ensures) (c .before .before .before .before .before .if1 .left)) (s .args .wanted .0) (c .before .before .before .if2 .left)
 
 pub room-spec : {M : Type 1} → statement M
 room-spec =
