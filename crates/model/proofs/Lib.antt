@@ -7,4 +7,5 @@ pub mod GraphLaws
 pub mod FaultLaws
 pub mod ReadingLaws
 pub mod RecordLaws
+pub mod PlanLaws
 pub mod LevelSheet

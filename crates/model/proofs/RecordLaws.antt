@@ -95,7 +95,7 @@ all-follows (p ∷ rs) r h = rises-test p r rs (h p (List·Memᴰ·head refl))
 
 -- Lookups find what is listed
 
-past : {p q : Record} {rs : List Record} → (kind p ≡ kind q → ⊥) → List·Memᴰ p (q ∷ rs) → List·Memᴰ p rs
+pub past : {p q : Record} {rs : List Record} → (kind p ≡ kind q → ⊥) → List·Memᴰ p (q ∷ rs) → List·Memᴰ p rs
 past h m = ⊎-elim (λ e. absurd (h (ap kind e))) (λ i. i) (List·Memᴰ·cases-cons m)
 
 -- where nothing is called, the numbers of a kind differ
