@@ -8,4 +8,5 @@ pub mod FaultLaws
 pub mod ReadingLaws
 pub mod RecordLaws
 pub mod PlanLaws
+pub mod PlanValueLaws
 pub mod LevelSheet
