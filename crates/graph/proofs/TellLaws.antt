@@ -12,17 +12,10 @@ use lib.Seq.{ext-getD}
 use mir.Facts.{and-yes}
 use borrow.Author.Tests.{eqb-true, eqb-false, ltb-true, ltb-false, not-true}
 use Rattle.ids.specs.Limits.{nodes}
+use Rattle.model.proofs.GraphLaws.{yes, is-true}
 use Rattle.graph.specs.Tables.{lit, on, Tells}
 use Rattle.graph.specs.Steps.{Cleaned, MetBack}
 use Rattle.graph.proofs.StepLaws.{on-lit}
-
--- a test that is true holds, and one that holds is true
-yes : {t : Bool} → t ≡ true → T t
-yes e = subst T (sym e) tt
-
-is-true : (t : Bool) → T t → t ≡ true
-is-true true h = refl
-is-true false h = absurd h
 
 -- what a pair in the relation tells: the second node is within the table, the byte is lit, and in a whole table so is the first node
 pub on-inside : (cells : List ℕ) (n m : ℕ) → T (on cells n m) → m < nodes

@@ -1,7 +1,7 @@
 -- The computed closure `via` of a relation is the relation's paths, and a dependence is a path with a call edge on it. Sound by joining
 -- paths; complete because `via` over a list of nodes may pass by each of them, so that a path is followed step by step.
 -- Assumes nothing.
-use mathlib.Core.Path.{_≡_, subst}
+use mathlib.Core.Path.{_≡_, refl, sym, subst}
 use mathlib.Core.Bool.{Bool, true, false, _&&_, _||_}
 use mathlib.Core.List.{List, [], _∷_, List·Memᴰ, List·Memᴰ·not-nil, List·Memᴰ·cases-cons}
 use mathlib.Core.Logic.{_↔_, _⊎_, inl, inr, ⊎-elim}
@@ -9,6 +9,14 @@ use Prim.Native.Nat.{ℕ}
 use lib.Dec.{T, eqb, eqb→eq, eqb-refl}
 use mir.Facts.{and-yes, yes-and}
 use Rattle.model.specs.Graph.{either, Reach, stay, go, Depends, by-call, by-site, via}
+
+-- a test that is true holds, and one that holds is true
+pub yes : {t : Bool} → t ≡ true → T t
+yes e = subst T (sym e) tt
+
+pub is-true : (t : Bool) → T t → t ≡ true
+is-true true h = refl
+is-true false h = absurd h
 
 -- an "or" that holds, by its sides
 pub or-cases : (a b : Bool) → T (a || b) → T a ⊎ T b

@@ -7,4 +7,6 @@ pub mod GraphLaws
 pub mod FaultLaws
 pub mod ReadingLaws
 pub mod RecordLaws
+pub mod PlanLaws
+pub mod PlanValueLaws
 pub mod LevelSheet

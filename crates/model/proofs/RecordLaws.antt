@@ -29,12 +29,12 @@ rises-trans (by-called a b c) (by-kind d) = by-kind (omega arith)
 rises-trans (by-called a b c) (by-number d e) = by-number (a ∙ d) (omega arith)
 rises-trans (by-called a b c) (by-called d e f) = by-called (a ∙ d) (b ∙ e) (omega arith)
 
-never-falls : {q r : Record} → Rises q r → kind q ≤ kind r
+pub never-falls : {q r : Record} → Rises q r → kind q ≤ kind r
 never-falls (by-kind a) = omega arith
 never-falls (by-number a b) = omega arith
 never-falls (by-called a b c) = omega arith
 
-within : {q r : Record} → Rises q r → kind q ≡ kind r → (number q < number r) ⊎ ((number q ≡ number r) × (called q < called r))
+pub within : {q r : Record} → Rises q r → kind q ≡ kind r → (number q < number r) ⊎ ((number q ≡ number r) × (called q < called r))
 within (by-kind a) e = absurd (omega arith)
 within (by-number a b) e = inl b
 within (by-called a b c) e = inr (b, c)
@@ -95,7 +95,7 @@ all-follows (p ∷ rs) r h = rises-test p r rs (h p (List·Memᴰ·head refl))
 
 -- Lookups find what is listed
 
-past : {p q : Record} {rs : List Record} → (kind p ≡ kind q → ⊥) → List·Memᴰ p (q ∷ rs) → List·Memᴰ p rs
+pub past : {p q : Record} {rs : List Record} → (kind p ≡ kind q → ⊥) → List·Memᴰ p (q ∷ rs) → List·Memᴰ p rs
 past h m = ⊎-elim (λ e. absurd (h (ap kind e))) (λ i. i) (List·Memᴰ·cases-cons m)
 
 -- where nothing is called, the numbers of a kind differ

@@ -3,11 +3,12 @@
 use Prim.Native.Nat.{ℕ, zero, suc, _+_, min}
 use mathlib.Core.Bool.{cond}
 use mathlib.Core.List.{List, [], _∷_}
+use mathlib.Core.Option.{Option, none, some}
 use lib.ListN.{getD, replicate, set}
 use lib.Dec.{eqb, ltb}
 use Rattle.ids.specs.Limits.{sites, nodes, most-edges}
 use Rattle.ids.specs.Made.{Told}
-use Rattle.model.specs.Plan.{Record, site, node, edge}
+use Rattle.model.specs.Plan.{Record, site, node, edge, Place}
 use Rattle.model.specs.Reading.{Reading, accepted, refused}
 use Rattle.model.specs.declared.Plan.{Plan}
 use Rattle.model.specs.declared.PlanRefusal.{PlanRefusal}
@@ -104,3 +105,8 @@ unfoldable pub records-of : Plan → List Record
 records-of p =
     edge-records (p .callers) (p .callees) (min (p .edges) most-edges)
     (node-records (p .places) (p .levels) nodes (site-records (p .threads) sites))
+
+-- a node's site and level in a plan's value, where it has a record there
+unfoldable pub held : Plan → ℕ → Option Place
+held p n =
+    cond (ltb (getD (p .places) n nowhere) sites) (some (record { at = getD (p .places) n nowhere; level = getD (p .levels) n 0 })) none
