@@ -6,16 +6,16 @@ uint8_t plain_level(uint8_t threads, const uint8_t *counts, size_t len)
 {
     if (threads == 0 || threads > ADMISSION_LEVELS || len != ADMISSION_LEVELS)
         return ADMISSION_REFUSED;
-    unsigned k = ADMISSION_LEVELS;
+    size_t k = ADMISSION_LEVELS;
     while (k > threads)
         if (counts[--k] != 0)
             return ADMISSION_REFUSED;
-    unsigned answer = threads;
-    unsigned sum = 0;
+    size_t answer = threads;
+    size_t sum = 0;
     while (k > 0) {
         k--;
         sum += counts[k];
-        unsigned most = threads - k;
+        size_t most = threads - k;
         if (sum > most)
             return ADMISSION_REFUSED;
         if (sum == most)
@@ -52,9 +52,21 @@ void site_open(struct site *site, uint8_t threads)
     site->filling = true;
 }
 
-static void enter(struct site *site, unsigned admissible)
+/* The levels that may start, found from level 0 up. Not by plain_level: a count of its calls is to see only those that are compared. */
+static unsigned open_levels(const struct site *site)
 {
-    site->counts[random_below(admissible)]++;
+    unsigned at_or_above = site->active;
+    for (unsigned k = 0; k < site->threads; k++) {
+        if (at_or_above == site->threads - k)
+            return k;
+        at_or_above -= site->counts[k];
+    }
+    return site->threads;
+}
+
+static void enter(struct site *site, unsigned open)
+{
+    site->counts[random_below(open)]++;
     site->active++;
 }
 
@@ -71,15 +83,15 @@ static void leave(struct site *site)
 
 void site_move(struct site *site)
 {
-    unsigned admissible = plain_level(site->threads, site->counts, ADMISSION_LEVELS);
+    unsigned open = open_levels(site);
     if (random_below(64) == 0)
         site->filling = !site->filling;
-    if (admissible == ADMISSION_NONE)
+    if (open == 0)
         site->filling = false;
     if (site->active == 0)
         site->filling = true;
     if (site->filling)
-        enter(site, admissible);
+        enter(site, open);
     else
         leave(site);
 }
