@@ -26,7 +26,7 @@ or-lit a b = cases (eqb a 0) refl
         simp (e, ne-eqb (bitOr a b) 0 some)
 
 -- equal bytes are lit alike
-lit-ap : {a b : ℕ} → a ≡ b → not (eqb a 0) ≡ not (eqb b 0)
+pub lit-ap : {a b : ℕ} → a ≡ b → not (eqb a 0) ≡ not (eqb b 0)
 lit-ap e = ap (λ (x : ℕ). not (eqb x 0)) e
 
 -- a byte is lit where it is not 0
@@ -77,7 +77,7 @@ byte-small : (t : Bool) → boolByte t ≤ 1
 byte-small true = omega arith
 byte-small false = omega arith
 
-byte-lit : (t : Bool) → not (eqb (boolByte t) 0) ≡ t
+pub byte-lit : (t : Bool) → not (eqb (boolByte t) 0) ≡ t
 byte-lit true = refl
 byte-lit false = refl
 

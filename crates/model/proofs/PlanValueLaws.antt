@@ -246,6 +246,13 @@ module _ (p : Plan) where
             ∙ sym (eqb-true (getD (p .threads) s 0) 0 e)
         here false e = rw (eq-eqb s s refl)
 
+    -- a number that is no node is nowhere
+    pub held-out : (n : ℕ) → nodes ≤ n → held p n ≡ none
+    unfolding held
+    held-out n h =
+        let out : getD (p .places) n nowhere ≡ nowhere = List·getD-eq-default (p .places) nowhere {n = n} (omega (arith, sized .places)) in
+        rw out
+
     -- a node's site and level
     pub place-of : (n : ℕ) → place (records-of p) n ≡ held p n
     unfolding place held
@@ -256,10 +263,9 @@ module _ (p : Plan) where
         each-find (λ qs. place qs n) (node-at (p .places) (p .levels)) nodes n its-sites h (λ i qs l. other i qs (λ e. omega arith))
         ∙ here (ltb (getD (p .places) n nowhere) sites) refl)
         (λ (h : nodes ≤ n).
-        let out : getD (p .places) n nowhere ≡ nowhere = List·getD-eq-default (p .places) nowhere {n = n} (omega (arith, sized .places)) in
         each-skip (λ qs. place qs n) (node-at (p .places) (p .levels)) nodes its-sites (λ i qs l. other i qs (λ e. omega arith))
         ∙ none-there
-        ∙ rw out)
+        ∙ sym (held-out n h))
         (lt-or-ge n nodes)
       where
         none-there : place its-sites n ≡ none

@@ -1,0 +1,165 @@
+-- How the tables of call edges and of steps within a site are filled: a stored byte is one pair more, every other pair is as it was, and the
+-- records of a plan's value say what its arrays hold. Assumes nothing.
+use Prim.Native.Nat.{ℕ, zero, suc, _+_, _*_, _<_, _≤_, min}
+use native.Mathlib.Nat.{not-suc-le-zero, le-of-suc-le-suc}
+use native.Mathlib.Numerals.{add-one}
+use native.Mathlib.Omega.{arith}
+use mathlib.Core.Path.{_≡_, refl, sym, ap, ap₂, _∙_}
+use mathlib.Core.Bool.{Bool, true, false, _&&_, _||_, cond}
+use mathlib.Core.List.{List, [], _∷_}
+use mathlib.Core.Option.{none, some}
+use lib.Dec.{eqb, leb, ltb}
+use lib.ListN.{length, getD, set, replicate, length-set}
+use lib.Seq.{getD-set-same, getD-set-other}
+use mir.Val.{boolByte}
+use borrow.Author.Count.{below-more}
+use borrow.Author.Tests.{eqb-true, eq-eqb, ne-eqb, lt-ltb, le-ltb}
+use Rattle.lists.proofs.CountLaws.{never-both, and-left, and-right, and-both}
+use Rattle.ids.specs.Limits.{sites, nodes, most-edges}
+use Rattle.model.specs.Plan.{Place, calls, site-steps, descends}
+use Rattle.model.specs.PlanValue.{nowhere, edge-records, records-of, held}
+use Rattle.model.specs.declared.Plan.{Plan}
+use Rattle.model.proofs.PlanValueLaws.{Sized, calls-of, place-of}
+use Rattle.graph.specs.Tables.{lit, on}
+use Rattle.graph.specs.Steps.{Is}
+use Rattle.graph.proofs.StepLaws.{on-lit, lit-ap, byte-lit}
+use Rattle.graph.proofs.TellLaws.{none-on}
+use Rattle.cycles.specs.Within.{Rowed}
+
+-- One pair more
+
+-- numbers that are no nodes make no pair
+pub mark-row : (cells : List ℕ) (from to : ℕ) → nodes ≤ from → Is cells (λ n m. (eqb from n && eqb to m) || on cells n m)
+mark-row cells from to out n m hn hm = rw (ne-eqb from n (λ e. omega arith))
+
+pub mark-column : (cells : List ℕ) (from to : ℕ) → nodes ≤ to → Is cells (λ n m. (eqb from n && eqb to m) || on cells n m)
+mark-column cells from to out n m hn hm = go (eqb from n) (eqb to m) (ne-eqb to m (λ e. omega arith))
+  where
+    go : (a b : Bool) → b ≡ false → on cells n m ≡ ((a && b) || on cells n m)
+    go true b e = rw e
+    go false b e = refl
+
+-- two nodes make one
+pub mark-pair : (cells : List ℕ) (from to : ℕ) → length cells ≡ nodes * nodes → from < nodes → to < nodes
+    → Is (set cells (nodes * from + to) 1) (λ n m. (eqb from n && eqb to m) || on cells n m)
+mark-pair cells from to long hf ht n m hn hm = on-lit (set cells x 1) n m hm ∙ go (eqb from n && eqb to m) refl ∙ ap (λ (t : Bool). (eqb from n && eqb to m) || t) (sym (on-lit cells n m hm))
+  where
+    x : ℕ
+    x = nodes * from + to
+
+    go : (b : Bool) → (eqb from n && eqb to m) ≡ b → lit (set cells x 1) (nodes * n + m) ≡ (b || lit cells (nodes * n + m))
+    go true e =
+        let row = eqb-true from n (and-left (eqb from n) (eqb to m) e) in
+        let column = eqb-true to m (and-right (eqb from n) (eqb to m) e) in
+        let here : nodes * n + m ≡ nodes * from + to = omega arith in
+        lit-ap (ap (λ (y : ℕ). getD (set cells x 1) y 0) here ∙ getD-set-same cells x 1 0 (omega arith))
+    go false e =
+        lit-ap
+        (getD-set-other cells x (nodes * n + m) 1 0
+        (λ same. never-both (and-both (eqb from n) (eqb to m) (eq-eqb from n (omega arith)) (eq-eqb to m (omega arith))) e))
+
+-- The call edges
+
+pub call-none : (cells cs ds : List ℕ) → cells ≡ replicate (nodes * nodes) 0 → Is cells (calls (edge-records cs ds 0 []))
+unfolding calls
+call-none cells cs ds e n m hn hm = ap (λ (l : List ℕ). on l n m) e ∙ none-on (nodes * nodes) n m
+
+pub call-more : (cells next cs ds : List ℕ) (i : ℕ) → Is cells (calls (edge-records cs ds i []))
+    → Is next (λ n m. (eqb (getD cs i 0) n && eqb (getD ds i 0) m) || on cells n m) → Is next (calls (edge-records cs ds (i + 1) []))
+unfolding calls
+call-more cells next cs ds i so-far turn n m hn hm =
+    rw (add-one i)
+    (turn n m hn hm ∙ ap (λ (t : Bool). (eqb (getD cs i 0) n && eqb (getD ds i 0) m) || t) (so-far n m hn hm))
+
+pub call-all : (p : Plan) (cells : List ℕ) (i : ℕ) → i ≡ min (p .edges) most-edges → Is cells (calls (edge-records (p .callers) (p .callees) i []))
+    → Is cells (calls (records-of p))
+call-all p cells i e so n m hn hm =
+    so n m hn hm ∙ ap (λ (k : ℕ). calls (edge-records (p .callers) (p .callees) k []) n m) e ∙ sym (calls-of p n m)
+
+-- The steps within a site
+
+-- within its list an entry is the same whatever stands for those beyond
+entry : (l : List ℕ) (i a b : ℕ) → i < length l → getD l i a ≡ getD l i b
+entry [] i a b h = absurd (not-suc-le-zero h)
+entry (x ∷ l) zero a b h = refl
+entry (x ∷ l) (suc i) a b h = entry l i a b (le-of-suc-le-suc h)
+
+module _ (p : Plan) (sized : Sized p) (n m : ℕ) (hn : n < nodes) where
+  steps-held : site-steps (records-of p) n m ≡ descends (held p n) (held p m)
+  unfolding site-steps
+  steps-held = ap₂ descends (place-of p sized n) (place-of p sized m)
+
+  its-site : getD (p .places) n 0 ≡ getD (p .places) n nowhere
+  its-site = entry (p .places) n 0 nowhere (omega (arith, sized .places))
+
+  -- from a node without a record there is none
+  pub step-nowhere : sites ≤ getD (p .places) n 0 → site-steps (records-of p) n m ≡ false
+  unfolding held
+  step-nowhere h = steps-held ∙ rw (le-ltb (getD (p .places) n nowhere) sites (omega (arith, its-site)))
+
+  module _ (hm : m < nodes) (low : getD (p .places) n 0 < sites) where
+    its-other : getD (p .places) m 0 ≡ getD (p .places) m nowhere
+    its-other = entry (p .places) m 0 nowhere (omega (arith, sized .places))
+
+    -- nor to a node elsewhere
+    pub step-elsewhere : (getD (p .places) m 0 ≡ getD (p .places) n 0 → ⊥) → site-steps (records-of p) n m ≡ false
+    unfolding held
+    step-elsewhere apart =
+        steps-held
+        ∙ rw (lt-ltb (getD (p .places) n nowhere) sites (omega (arith, its-site)))
+        (go (ltb (getD (p .places) m nowhere) sites))
+      where
+        one : Place
+        one = record { at = getD (p .places) n nowhere; level = getD (p .levels) n 0 }
+
+        two : Place
+        two = record { at = getD (p .places) m nowhere; level = getD (p .levels) m 0 }
+
+        go : (b : Bool) → descends (some one) (cond b (some two) none) ≡ false
+        go true = rw (ne-eqb (getD (p .places) n nowhere) (getD (p .places) m nowhere) (λ e. apart (its-other ∙ sym e ∙ sym its-site)))
+        go false = refl
+
+    -- and at one site the levels decide
+    pub step-level : getD (p .places) m 0 ≡ getD (p .places) n 0 → site-steps (records-of p) n m ≡ leb (getD (p .levels) m 0) (getD (p .levels) n 0)
+    unfolding held
+    step-level same =
+        steps-held
+        ∙ rw (
+          lt-ltb (getD (p .places) n nowhere) sites (omega (arith, its-site)),
+          lt-ltb (getD (p .places) m nowhere) sites (omega (arith, its-other)),
+          eq-eqb (getD (p .places) n nowhere) (getD (p .places) m nowhere) (sym its-site ∙ sym same ∙ its-other),
+        )
+
+-- A row
+
+pub rowed-none : (old : List ℕ) (n : ℕ) (row : ℕ → Bool) → Rowed old old n row 0
+rowed-none old n row = record { done = λ m h. absurd (omega arith); other = λ i m apart h. refl; long = refl }
+
+pub rowed-more : (old new : List ℕ) (n : ℕ) (row : ℕ → Bool) (m : ℕ) → length old ≡ nodes * nodes → n < nodes → m < nodes
+    → (b : Bool) → b ≡ row m → Rowed old new n row m → Rowed old (set new (nodes * n + m) (boolByte b)) n row (m + 1)
+rowed-more old new n row m long hn hm b is so-far =
+    record {
+      done =
+          below-more (λ k. on next n k ≡ row k) m
+          (λ k h. kept n k (omega arith) (λ e. omega arith) ∙ so-far .done k h)
+          (on-lit next n m hm ∙ lit-ap (getD-set-same new x (boolByte b) 0 (omega (arith, so-far .long))) ∙ byte-lit b ∙ is);
+      other = λ i k apart h. kept i k h (λ e. apart (omega arith)) ∙ so-far .other i k apart h;
+      long = length-set new x (boolByte b) ∙ so-far .long;
+    }
+  where
+    x : ℕ
+    x = nodes * n + m
+
+    next : List ℕ
+    next = set new x (boolByte b)
+
+    kept : (i k : ℕ) → k < nodes → (nodes * i + k ≡ x → ⊥) → on next i k ≡ on new i k
+    kept i k hk apart = on-lit next i k hk ∙ lit-ap (getD-set-other new x (nodes * i + k) (boolByte b) 0 apart) ∙ sym (on-lit new i k hk)
+
+-- the rows of the nodes below n
+pub rows-more : (cells next : List ℕ) (steps : ℕ → ℕ → Bool) (n : ℕ) → ((i : ℕ) → i < n → (m : ℕ) → m < nodes → on cells i m ≡ steps i m)
+    → Rowed cells next n (steps n) nodes → (i : ℕ) → i < n + 1 → (m : ℕ) → m < nodes → on next i m ≡ steps i m
+rows-more cells next steps n so-far row =
+    below-more (λ i. (m : ℕ) → m < nodes → on next i m ≡ steps i m) n
+    (λ i h m hm. row .other i m (λ e. omega arith) hm ∙ so-far i h m hm)
+    (λ m hm. row .done m hm)

@@ -1,0 +1,33 @@
+-- `cycles::dependence` meets its contract: the dependences of the two tables are those of the plan.
+-- Assumes nothing.
+use Prim.Native.Nat.{_*_}
+use mathlib.Core.Path.{_≡_}
+use lib.ListN.{length}
+use borrow.Author.Needs.{needs}
+use Rattle.model.proofs.PlanValueLaws.{Sized}
+use Rattle.ids.specs.Limits.{nodes}
+use Rattle.cycles.proofs.WithinLaws.{dependence-tables}
+use Rattle.cycles.proofs.dependence.Statement.{statement}
+use Rattle.cycles.proofs.dependence.Tie as tie
+
+call-table-requires : tie.Need-call-table-requires
+call-table-requires c κs = search needs
+
+step-table-requires : tie.Need-step-table-requires
+step-table-requires c κs = search needs
+
+dependence-requires : tie.Need-dependence-requires
+dependence-requires c κs = search needs
+
+returns : tie.Need-returns
+returns c =
+    let made = c .before .before in
+    let sized : Sized (made .before .args .plan) = search needs in
+    let calling : length (made .call-table .result .cells) ≡ nodes * nodes = search needs in
+    let stepping : length (c .before .step-table .result .cells) ≡ nodes * nodes = search needs in
+    dependence-tables (made .call-table .result .cells) calling (made .before .args .plan) sized (c .before .step-table .result .cells) stepping (made .call-table .ensures) (c .before .step-table .ensures)
+    (c .dependence .result .cells) (c .dependence .ensures)
+
+pub dependence-spec : {M : Type 1} → statement M
+dependence-spec =
+    tie.close (tie.spec call-table-requires step-table-requires dependence-requires returns)

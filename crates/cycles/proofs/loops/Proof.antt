@@ -1,0 +1,31 @@
+-- `cycles::loops` meets its contract: with no steps within a site, the circles of the table of call edges are those of the plan's call edges.
+-- Assumes nothing.
+use Prim.Native.Nat.{_*_}
+use mathlib.Core.Path.{_≡_}
+use mathlib.Core.Logic.{Iff·trans}
+use lib.ListN.{length}
+use borrow.Author.Needs.{needs}
+use Rattle.ids.specs.Limits.{nodes}
+use Rattle.model.specs.PlanValue.{records-of}
+use Rattle.cycles.proofs.WithinLaws.{loop-tables}
+use Rattle.cycles.proofs.loops.Statement.{statement}
+use Rattle.cycles.proofs.loops.Tie as tie
+
+call-table-requires : tie.Need-call-table-requires
+call-table-requires c κs = search needs
+
+empty-requires : tie.Need-empty-requires
+empty-requires c κs = search needs
+
+circular-requires : tie.Need-circular-requires
+circular-requires c κs = search needs
+
+returns : tie.Need-returns
+returns c =
+    let made = c .before .before in
+    let long : length (made .call-table .result .cells) ≡ nodes * nodes = search needs in
+    Iff·trans (c .circular .ensures)
+    (loop-tables (made .call-table .result .cells) long (records-of (made .before .args .plan)) (c .before .empty .result .cells) (made .call-table .ensures) (c .before .empty .ensures))
+
+pub loops-spec : {M : Type 1} → statement M
+loops-spec = tie.close (tie.spec call-table-requires empty-requires circular-requires returns)

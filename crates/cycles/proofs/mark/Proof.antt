@@ -1,0 +1,35 @@
+-- `cycles::mark` meets its contract: a number that is no node makes no pair, and two nodes make one.
+-- Assumes nothing.
+use native.Mathlib.Omega.{arith}
+use borrow.Author.Needs.{needs}
+use Rattle.cycles.proofs.TableLaws.{mark-row, mark-column, mark-pair}
+use Rattle.cycles.proofs.mark.Statement.{statement}
+use Rattle.cycles.proofs.mark.Tie as tie
+
+returns : tie.Need-returns
+returns c = let a = c .before .args in mark-row (a .cells .now) (a .from) (a .to) (omega arith)
+
+returns-2 : tie.Need-returns-2
+returns-2 c = let a = c .before .before .args in mark-column (a .cells .now) (a .from) (a .to) (omega arith)
+
+mul-cells : tie.Need-mul-cells
+mul-cells c = search needs
+
+add-cells : tie.Need-add-cells
+add-cells c = search needs
+
+slice-write-cells : tie.Need-slice-write-cells
+slice-write-cells c = search needs
+
+same-length : tie.Need-same-length
+same-length c = search needs
+
+returns-3 : tie.Need-returns-3
+returns-3 c =
+    let a = c .before .before .args in
+    mark-pair (a .cells .now) (a .from) (a .to) (omega arith) (omega arith) (omega arith)
+
+pub mark-spec : {M : Type 1} → statement M
+mark-spec =
+    tie.close
+    (tie.spec returns returns-2 mul-cells add-cells slice-write-cells same-length returns-3)

@@ -1,0 +1,34 @@
+-- `cycles::self_depends` meets its contract: the circles of the two tables are those of the plan.
+-- Assumes nothing.
+use Prim.Native.Nat.{_*_}
+use mathlib.Core.Path.{_≡_}
+use mathlib.Core.Logic.{Iff·trans}
+use lib.ListN.{length}
+use borrow.Author.Needs.{needs}
+use Rattle.model.proofs.PlanValueLaws.{Sized}
+use Rattle.ids.specs.Limits.{nodes}
+use Rattle.cycles.proofs.WithinLaws.{circle-tables}
+use Rattle.cycles.proofs.self_depends.Statement.{statement}
+use Rattle.cycles.proofs.self_depends.Tie as tie
+
+call-table-requires : tie.Need-call-table-requires
+call-table-requires c κs = search needs
+
+step-table-requires : tie.Need-step-table-requires
+step-table-requires c κs = search needs
+
+circular-requires : tie.Need-circular-requires
+circular-requires c κs = search needs
+
+returns : tie.Need-returns
+returns c =
+    let made = c .before .before in
+    let sized : Sized (made .before .args .plan) = search needs in
+    let calling : length (made .call-table .result .cells) ≡ nodes * nodes = search needs in
+    let stepping : length (c .before .step-table .result .cells) ≡ nodes * nodes = search needs in
+    Iff·trans (c .circular .ensures)
+    (circle-tables (made .call-table .result .cells) calling (made .before .args .plan) sized (c .before .step-table .result .cells) stepping (made .call-table .ensures) (c .before .step-table .ensures))
+
+pub self-depends-spec : {M : Type 1} → statement M
+self-depends-spec =
+    tie.close (tie.spec call-table-requires step-table-requires circular-requires returns)
