@@ -182,11 +182,11 @@ read-ends : (bytes : List ℕ) → Ended six bytes (read bytes)
 unfolding read records-bytes passes
 read-ends bytes = each-ends six (suc (length bytes)) [] 0 bytes (omega arith) refl refl
 
-encode-rest : (rs : List Record) (rest : List ℕ) → encode rs ++ rest ≡ records-bytes rs ++ (4 ∷ rest)
+pub encode-rest : (rs : List Record) (rest : List ℕ) → encode rs ++ rest ≡ records-bytes rs ++ (4 ∷ rest)
 unfolding encode
 encode-rest rs rest = append-assoc (records-bytes rs) (4 ∷ []) rest
 
-encode-length : (rs : List Record) → length (encode rs) ≡ length (records-bytes rs) + 1
+pub encode-length : (rs : List Record) → length (encode rs) ≡ length (records-bytes rs) + 1
 unfolding encode
 encode-length rs = length-append (records-bytes rs) (4 ∷ [])
 

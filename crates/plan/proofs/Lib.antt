@@ -1,0 +1,4 @@
+mod TakenLaws
+mod RecordFaults
+mod ReadLaws
+mod FinishLaws

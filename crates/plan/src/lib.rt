@@ -1,0 +1,87 @@
+// Reading a plan: from record to record through the lent bytes, up to the end record, and then the checks on the whole plan.
+ghost use mathlib.Core.Path.{_≡_};
+ghost use mathlib.Core.Bool.{true};
+ghost use Prim.Native.Nat.{_<_, _^_};
+ghost use lib.Dec.{eqb};
+ghost use Rattle.model.specs.Plan.{six, passes, end-fault};
+ghost use Rattle.model.specs.Reading.{refused as refused-at, finish, read as reading};
+ghost use Rattle.model.specs.PlanValue.{empty-plan, value, records-of, refusal-number};
+ghost use Rattle.plan.specs.Answers.{Answers};
+use ids::Node;
+use ids::Site;
+use model::Plan;
+use model::PlanRead;
+use model::PlanRecord;
+use model::PlanRefusal;
+use model::ReadAnswer;
+use record::Checked;
+use record::NextRecord;
+
+// The plan with no records.
+pub fn empty() -> Plan
+    ensures { λ r. ⌜ r ≡ empty-plan ⌝ }
+{
+    Plan {
+        threads: [0; Site::COUNT],
+        places: [Plan::NOWHERE; Node::COUNT],
+        levels: [0; Node::COUNT],
+        callers: [0; Node::EDGES],
+        callees: [0; Node::EDGES],
+        edges: 0,
+    }
+}
+
+// A refusal at an offset, with the empty plan.
+fn refused(why: PlanRefusal, at: usize) -> PlanRead
+    ensures { λ r. ⌜ Answers r (refused-at (refusal-number why) at) ⌝ }
+{
+    PlanRead {
+        answer: ReadAnswer::Refused(why, at),
+        plan: empty(),
+    }
+}
+
+// The answer at the end record: 7, then 8, else the plan.
+fn finished(plan: Plan, at: usize) -> PlanRead
+    requires { ⌜ (passes six (records-of plan) ≡ true) × (value (records-of plan) ≡ plan) × (at < 2 ^ 63) ⌝ }
+    ensures { λ r. ⌜ Answers r (finish (eqb (end-fault (records-of plan)) 0) (records-of plan) at) ⌝ }
+{
+    if cycles::loops(plan) {
+        return refused(PlanRefusal::Loop, at);
+    }
+    if cycles::self_depends(plan) {
+        return refused(PlanRefusal::SelfDependence, at);
+    }
+    PlanRead {
+        answer: ReadAnswer::Accepted(at + 1),
+        plan,
+    }
+}
+
+// Reads a plan from the front of some bytes. What stands behind the end record does not matter.
+pub fn read(bytes: &[u8]) -> PlanRead
+    ensures { λ r. ⌜ Answers r (reading (now (bytes .entry))) ⌝ }
+{
+    let mut plan = empty();
+    let mut last = PlanRecord::End;
+    let mut at = 0;
+    loop {
+        let found = record::next_record(bytes, at);
+        if let NextRecord::Unknown = found {
+            return refused(PlanRefusal::UnknownKind, at);
+        }
+        let NextRecord::Whole(next, behind) = found else {
+            return refused(PlanRefusal::InputEnds, at);
+        };
+        if let PlanRecord::End = next {
+            return finished(plan, at);
+        }
+        let checked = record::check(plan, last, next);
+        if let Checked::Refused(why) = checked {
+            return refused(why, at);
+        }
+        plan = record::store(plan, next);
+        last = next;
+        at = behind;
+    }
+}
