@@ -1,17 +1,38 @@
 -- Every line of the level sheet holds of the definitions: one test that antt computes over the whole table, and a lemma that turns it into
 -- what each line says. Assumes nothing.
-use mathlib.Core.Path.{_≡_, refl}
-use mathlib.Core.Bool.{Bool, true, _&&_}
+use Prim.Native.Nat.{ℕ}
+use mathlib.Core.Path.{_≡_, refl, ap₂}
+use mathlib.Core.Bool.{Bool, true, false, _&&_}
 use mathlib.Core.List.{List, [], _∷_}
 use lib.Dec.{eqb}
 use borrow.Author.Tests.{eqb-true}
-use Rattle.lists.proofs.CountLaws.{and-left, and-right}
+use Rattle.lists.proofs.CountLaws.{never-both, and-left, and-right}
+use Rattle.ids.specs.Made.{Told}
 use Rattle.model.specs.Site.{A, lawful, raised, full, limit, refused}
 use Rattle.model.specs.Answers.{firmware}
-use Rattle.model.specs.LevelSheet.{Case, site, counts, Holds, table}
+use Rattle.model.specs.LevelSheet.{Case, site, plan, counts, Holds, table}
+use Rattle.model.specs.House.{next}
+use Rattle.model.specs.Plan.{threads, place, calls, edges, follows, in-range, known, level-below, room-for, record-fault, site-steps, listed, closed-backwards, loops, self-depends, end-fault, bytes-of}
+use Rattle.model.specs.Reading.{read, read-on}
+use Rattle.model.specs.PlanValue.{reading-told}
+
+told-is : Told → ℕ → ℕ → Bool
+told-is [] n p = false
+told-is (a ∷ []) n p = false
+told-is (a ∷ b ∷ []) n p = eqb a n && eqb b p
+told-is (a ∷ b ∷ c ∷ r) n p = false
+
+told-exactly : (t : Told) (n p : ℕ) → told-is t n p ≡ true → t ≡ n ∷ p ∷ []
+unfolding told-is
+told-exactly [] n p e = absurd (never-both e refl)
+told-exactly (a ∷ []) n p e = absurd (never-both e refl)
+told-exactly (a ∷ b ∷ []) n p e =
+    ap₂ (λ (x y : ℕ). x ∷ y ∷ []) (eqb-true a n (and-left (eqb a n) (eqb b p) e)) (eqb-true b p (and-right (eqb a n) (eqb b p) e))
+told-exactly (a ∷ b ∷ c ∷ r) n p e = absurd (never-both e refl)
 
 test : Case → Bool
 test (site threads active number) = eqb (firmware threads (counts active)) number
+test (plan bytes number place) = told-is (reading-told (read bytes)) number place
 
 tests : List Case → Bool
 tests [] = true
@@ -25,6 +46,7 @@ All (c ∷ cs) = Holds c × All cs
 passes : (c : Case) → test c ≡ true → Holds c
 unfolding test
 passes (site threads active number) e = eqb-true (firmware threads (counts active)) number e
+passes (plan bytes number place) e = told-exactly (reading-told (read bytes)) number place e
 
 all-pass : (cs : List Case) → tests cs ≡ true → All cs
 unfolding tests
@@ -32,7 +54,8 @@ all-pass [] e = tt
 all-pass (c ∷ cs) e = (passes c (and-left (test c) (tests cs) e), all-pass cs (and-right (test c) (tests cs) e))
 
 computed : tests table ≡ true
-unfolding tests test firmware refused limit lawful full A raised
+unfolding tests test told-is firmware refused limit lawful full A raised read read-on next threads place calls edges follows in-range known level-below room-for
+    record-fault site-steps listed closed-backwards loops self-depends end-fault bytes-of
 computed = refl
 
 pub level-sheet : All table

@@ -1,16 +1,20 @@
 -- The level sheet of document 01: its cases marked P, in one table. Assumes nothing.
 use Prim.Native.Nat.{ℕ}
 use mathlib.Core.Path.{_≡_}
-use mathlib.Core.List.{List, [], _∷_}
+use mathlib.Core.List.{List, [], _∷_, _++_}
 use lib.ListN.{replicate}
 use Rattle.ids.specs.Limits.{most-threads}
 use Rattle.model.specs.Site.{put}
 use Rattle.model.specs.Answers.{firmware}
+use Rattle.model.specs.Reading.{read}
+use Rattle.model.specs.PlanValue.{reading-told}
 
 -- a line of the sheet
 pub data Case : Type 0 where
   -- threads, the levels of the active calls, and the firmware's number: the highest admissible level plus 1, or 0 for none
   site : ℕ → List ℕ → ℕ → Case
+  -- plan bytes, and what the reading tells: 0 and the bytes used, or the refusal and its offset
+  plan : List ℕ → ℕ → ℕ → Case
 
 -- the count of each level where these calls are active
 abbrev pub counts : List ℕ → List ℕ
@@ -19,6 +23,20 @@ counts active = put (replicate most-threads 0) active
 -- what a line says of the definitions
 abbrev pub Holds : Case → Type 0
 Holds (site threads active number) = firmware threads (counts active) ≡ number
+Holds (plan bytes number place) = reading-told (read bytes) ≡ number ∷ place ∷ []
+
+-- two sites of 2 threads; nodes 0 at site 0, 1 and 2 at site 1, 3 at site 0; edges 0 to 1 and 2 to 3; all levels 0 but that of node 2
+abbrev pub two-sites : ℕ → List ℕ
+two-sites level =
+    (1 ∷ 0 ∷ 2 ∷ [])
+    ++ (1 ∷ 1 ∷ 2 ∷ [])
+    ++ (2 ∷ 0 ∷ 0 ∷ 0 ∷ [])
+    ++ (2 ∷ 1 ∷ 1 ∷ 0 ∷ [])
+    ++ (2 ∷ 2 ∷ 1 ∷ level ∷ [])
+    ++ (2 ∷ 3 ∷ 0 ∷ 0 ∷ [])
+    ++ (3 ∷ 0 ∷ 1 ∷ [])
+    ++ (3 ∷ 2 ∷ 3 ∷ [])
+    ++ (4 ∷ [])
 
 abbrev pub table : List Case
 table =
@@ -36,4 +54,10 @@ table =
     ∷ site 1 (0 ∷ []) 0
     -- T = 64, none active: 63
     ∷ site 64 [] 64
+    -- all levels 0: refused, 8 at offset 28
+    ∷ plan (two-sites 0) 8 28
+    -- node 2 at level 1: accepted
+    ∷ plan (two-sites 1) 0 29
+    -- the empty input: 1 at offset 0
+    ∷ plan [] 1 0
     ∷ []
