@@ -6,7 +6,7 @@ ghost use lib.Dec.{eqb};
 ghost use Rattle.model.specs.Plan.{six, passes, end-fault};
 ghost use Rattle.model.specs.Reading.{refused as refused-at, finish, read as reading};
 ghost use Rattle.model.specs.PlanValue.{empty-plan, value, records-of, refusal-number};
-ghost use Rattle.plan.specs.Answers.{Answers};
+ghost use Rattle.plan.specs.Answers.{Answers, Stops};
 use ids::Node;
 use ids::Site;
 use model::Plan;
@@ -16,6 +16,18 @@ use model::PlanRefusal;
 use model::ReadAnswer;
 use record::Checked;
 use record::NextRecord;
+
+// Where the reading of records stops.
+pub enum Stop {
+    // The offset of the end record.
+    End(usize),
+    Refused(PlanRefusal, usize),
+}
+
+pub struct Scanned {
+    pub stop: Stop,
+    pub plan: Plan,
+}
 
 // The plan with no records.
 pub fn empty() -> Plan
@@ -58,9 +70,9 @@ fn finished(plan: Plan, at: usize) -> PlanRead
     }
 }
 
-// Reads a plan from the front of some bytes. What stands behind the end record does not matter.
-pub fn read(bytes: &[u8]) -> PlanRead
-    ensures { λ r. ⌜ Answers r (reading (now (bytes .entry))) ⌝ }
+// Reads records up to the end record or to the first that has a fault. The plan holds the records before.
+pub fn scan(bytes: &[u8]) -> Scanned
+    ensures { λ r. ⌜ Stops (now (bytes .entry)) (r .plan) (r .stop) ⌝ }
 {
     let mut plan = empty();
     let mut last = PlanRecord::End;
@@ -68,20 +80,45 @@ pub fn read(bytes: &[u8]) -> PlanRead
     loop {
         let found = record::next_record(bytes, at);
         if let NextRecord::Unknown = found {
-            return refused(PlanRefusal::UnknownKind, at);
+            return Scanned {
+                stop: Stop::Refused(PlanRefusal::UnknownKind, at),
+                plan,
+            };
         }
         let NextRecord::Whole(next, behind) = found else {
-            return refused(PlanRefusal::InputEnds, at);
+            return Scanned {
+                stop: Stop::Refused(PlanRefusal::InputEnds, at),
+                plan,
+            };
         };
         if let PlanRecord::End = next {
-            return finished(plan, at);
+            return Scanned {
+                stop: Stop::End(at),
+                plan,
+            };
         }
         let checked = record::check(plan, last, next);
         if let Checked::Refused(why) = checked {
-            return refused(why, at);
+            return Scanned {
+                stop: Stop::Refused(why, at),
+                plan,
+            };
         }
         plan = record::store(plan, next);
         last = next;
         at = behind;
+    }
+}
+
+// Reads a plan from the front of some bytes. What stands behind the end record does not matter.
+pub fn read(bytes: &[u8]) -> PlanRead
+    ensures { λ r. ⌜ Answers r (reading (now (bytes .entry))) ⌝ }
+{
+    let scanned = scan(bytes);
+    let plan = scanned.plan;
+    let stop = scanned.stop;
+    match stop {
+        Stop::End(at) => finished(plan, at),
+        Stop::Refused(why, at) => refused(why, at),
     }
 }
