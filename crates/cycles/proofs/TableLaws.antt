@@ -42,7 +42,10 @@ mark-column cells from to out n m hn hm = go (eqb from n) (eqb to m) (ne-eqb to 
 -- two nodes make one
 pub mark-pair : (cells : List ℕ) (from to : ℕ) → length cells ≡ nodes * nodes → from < nodes → to < nodes
     → Is (set cells (nodes * from + to) 1) (λ n m. (eqb from n && eqb to m) || on cells n m)
-mark-pair cells from to long hf ht n m hn hm = on-lit (set cells x 1) n m hm ∙ go (eqb from n && eqb to m) refl ∙ ap (λ (t : Bool). (eqb from n && eqb to m) || t) (sym (on-lit cells n m hm))
+mark-pair cells from to long hf ht n m hn hm =
+    on-lit (set cells x 1) n m hm
+    ∙ go (eqb from n && eqb to m) refl
+    ∙ ap (λ (t : Bool). (eqb from n && eqb to m) || t) (sym (on-lit cells n m hm))
   where
     x : ℕ
     x = nodes * from + to

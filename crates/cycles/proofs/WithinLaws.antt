@@ -3,14 +3,14 @@
 use Prim.Native.Nat.{ℕ, _*_, _<_, _≤_}
 use native.Mathlib.Omega.{arith}
 use mathlib.Core.Path.{_≡_, refl, sym, ap, _∙_, subst}
-use mathlib.Core.Logic.{_↔_, ⊎-elim, Iff·symm, Iff·trans}
+use mathlib.Core.Logic.{_↔_, ⊎-elim, Iff·trans}
 use mathlib.Core.Bool.{Bool, true, _&&_}
 use mathlib.Core.List.{List}
 use mathlib.Core.Option.{Option, none, some}
 use lib.Dec.{T, ltb, ltb→lt, lt→ltb}
 use lib.ListN.{length, replicate}
 use mir.Facts.{and-yes, yes-and}
-use Rattle.lists.proofs.CountLaws.{lt-or-ge, same-test}
+use Rattle.lists.proofs.CountLaws.{lt-or-ge, same-verdict}
 use Rattle.ids.specs.Limits.{nodes}
 use Rattle.model.specs.Graph.{Depends}
 use Rattle.model.specs.Plan.{Record, Place, place, calls, site-steps, no-steps, descends, six, passes, loops, self-depends}
@@ -47,14 +47,14 @@ on-within : (cells : List ℕ) (relation : ℕ → ℕ → Bool) → length cell
 unfolding within-nodes
 on-within cells relation long is n m = (from, into)
   where
-    from : T (on cells n m) → T (ltb n nodes && (ltb m nodes && relation n m))
+    from : T (on cells n m) → T (within-nodes relation n m)
     from h =
         let hm = on-inside cells n m h in
         let hn = on-row cells n m long h in
         yes-and (ltb n nodes) (ltb m nodes && relation n m) (lt→ltb n nodes hn)
         (yes-and (ltb m nodes) (relation n m) (lt→ltb m nodes hm) (subst T (is n m hn hm) h))
 
-    into : T (ltb n nodes && (ltb m nodes && relation n m)) → T (on cells n m)
+    into : T (within-nodes relation n m) → T (on cells n m)
     into h =
         let a = and-yes (ltb n nodes) (ltb m nodes && relation n m) h in
         let b = and-yes (ltb m nodes) (relation n m) (a .1) in
@@ -131,12 +131,11 @@ module _ (rs : List Record) (p : passes six rs ≡ true) where
 
   -- and the three answers are checks 7 and 8 and the plan's dependences
   pub loops-told : (b : Bool) → (b ≡ true) ↔ ((n : ℕ) × Depends (within-nodes (calls rs)) no-steps n n) → b ≡ loops rs
-  loops-told b told = let w = Iff·trans (Iff·trans told (circle-same (depends-whole no-steps))) (Iff·symm (loops-is rs p)) in same-test b (loops rs) (w .0) (w .1)
+  loops-told b told = same-verdict b (loops rs) (Iff·trans told (circle-same (depends-whole no-steps))) (loops-is rs p)
 
   pub self-depends-told : (b : Bool) → (b ≡ true) ↔ ((n : ℕ) × Depends (within-nodes (calls rs)) (site-steps rs) n n) → b ≡ self-depends rs
   self-depends-told b told =
-      let w = Iff·trans (Iff·trans told (circle-same (depends-whole (site-steps rs)))) (Iff·symm (self-depends-is rs p)) in
-      same-test b (self-depends rs) (w .0) (w .1)
+      same-verdict b (self-depends rs) (Iff·trans told (circle-same (depends-whole (site-steps rs)))) (self-depends-is rs p)
 
   pub dependence-told : (cells : List ℕ) → Tells cells (Depends (within-nodes (calls rs)) (site-steps rs)) → Tells cells (Depends (calls rs) (site-steps rs))
   dependence-told cells so = tells-same cells (within-nodes (calls rs)) (site-steps rs) (calls rs) (site-steps rs) (depends-whole (site-steps rs)) so

@@ -190,12 +190,16 @@ module _ (p : Plan) where
     past-edges : ((c d : ℕ) (qs : List Record) → look (edge c d ∷ qs) ≡ look qs) → look (records-of p) ≡ look its-nodes
     past-edges h =
         ap look records-each
-        ∙ each-skip look (edge-at (p .callers) (p .callees)) (min (p .edges) most-edges) its-nodes (λ i qs l. h (getD (p .callers) i 0) (getD (p .callees) i 0) qs)
+        ∙ each-skip look (edge-at (p .callers) (p .callees)) (min (p .edges) most-edges) its-nodes
+        (λ i qs l. h (getD (p .callers) i 0) (getD (p .callees) i 0) qs)
 
     past-nodes : ((n s l : ℕ) (qs : List Record) → look (node n s l ∷ qs) ≡ look qs) → look its-nodes ≡ look its-sites
     past-nodes h =
         each-skip look (node-at (p .places) (p .levels)) nodes its-sites
-        (λ i qs l. skip-some look qs (node i (getD (p .places) i nowhere) (getD (p .levels) i 0)) (h i (getD (p .places) i nowhere) (getD (p .levels) i 0) qs) (ltb (getD (p .places) i nowhere) sites))
+        (λ i qs l.
+        let s = getD (p .places) i nowhere in
+        let k = getD (p .levels) i 0 in
+        skip-some look qs (node i s k) (h i s k qs) (ltb s sites))
 
     past-sites : ((s t : ℕ) (qs : List Record) → look (site s t ∷ qs) ≡ look qs) → look its-sites ≡ look []
     past-sites h =
@@ -318,14 +322,20 @@ module _ (rs : List Record) (r : Record) (ok : RecordsOk (r ∷ rs)) (same : rec
   edges-yet h = edges-value rs ∙ no-edges rs (λ c d m. omega (arith, never-falls (ok .rising .1 (edge c d) m)))
 
   nodes-yet : (n : ℕ) → ((s l : ℕ) → List·Memᴰ (node n s l) rs → ⊥) → ltb (getD (old .places) n nowhere) sites ≡ false
-  nodes-yet n h = sym (present-held old n) ∙ ap present (sym (place-of old (value-sized rs) n) ∙ ap (λ (qs : List Record). place qs n) same) ∙ go (place rs n) refl
+  nodes-yet n h =
+      sym (present-held old n)
+      ∙ ap present (sym (place-of old (value-sized rs) n) ∙ ap (λ (qs : List Record). place qs n) same)
+      ∙ go (place rs n) refl
     where
       go : (o : Option Place) → place rs n ≡ o → present o ≡ false
       go none e = refl
       go (some q) e = absurd (h (q .at) (q .level) (place-listed rs n q e))
 
   threads-yet : (s : ℕ) → ((t : ℕ) → List·Memᴰ (site s t) rs → ⊥) → getD (old .threads) s 0 ≡ 0
-  threads-yet s h = sym (threads-of old (value-sized rs) s) ∙ ap (λ (qs : List Record). threads qs s) same ∙ go (eqb (threads rs s) 0) refl
+  threads-yet s h =
+      sym (threads-of old (value-sized rs) s)
+      ∙ ap (λ (qs : List Record). threads qs s) same
+      ∙ go (eqb (threads rs s) 0) refl
     where
       go : (b : Bool) → eqb (threads rs s) 0 ≡ b → threads rs s ≡ 0
       go true e = eqb-true (threads rs s) 0 e

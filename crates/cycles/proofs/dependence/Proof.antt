@@ -21,11 +21,13 @@ dependence-requires c κs = search needs
 
 returns : tie.Need-returns
 returns c =
-    let made = c .before .before in
-    let sized : Sized (made .before .args .plan) = search needs in
-    let calling : length (made .call-table .result .cells) ≡ nodes * nodes = search needs in
-    let stepping : length (c .before .step-table .result .cells) ≡ nodes * nodes = search needs in
-    dependence-tables (made .call-table .result .cells) calling (made .before .args .plan) sized (c .before .step-table .result .cells) stepping (made .call-table .ensures) (c .before .step-table .ensures)
+    let plan = c .before .before .before .args .plan in
+    let sized : Sized plan = search needs in
+    let edges = c .before .before .call-table in
+    let steps = c .before .step-table in
+    let calling : length (edges .result .cells) ≡ nodes * nodes = search needs in
+    let stepping : length (steps .result .cells) ≡ nodes * nodes = search needs in
+    dependence-tables (edges .result .cells) calling plan sized (steps .result .cells) stepping (edges .ensures) (steps .ensures)
     (c .dependence .result .cells) (c .dependence .ensures)
 
 pub dependence-spec : {M : Type 1} → statement M

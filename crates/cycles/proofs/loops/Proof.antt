@@ -23,9 +23,11 @@ circular-requires c κs = search needs
 returns : tie.Need-returns
 returns c =
     let made = c .before .before in
-    let long : length (made .call-table .result .cells) ≡ nodes * nodes = search needs in
+    let edges = made .call-table in
+    let none = c .before .empty in
+    let long : length (edges .result .cells) ≡ nodes * nodes = search needs in
     Iff·trans (c .circular .ensures)
-    (loop-tables (made .call-table .result .cells) long (records-of (made .before .args .plan)) (c .before .empty .result .cells) (made .call-table .ensures) (c .before .empty .ensures))
+    (loop-tables (edges .result .cells) long (records-of (made .before .args .plan)) (none .result .cells) (edges .ensures) (none .ensures))
 
 pub loops-spec : {M : Type 1} → statement M
 loops-spec = tie.close (tie.spec call-table-requires empty-requires circular-requires returns)

@@ -22,12 +22,14 @@ circular-requires c κs = search needs
 
 returns : tie.Need-returns
 returns c =
-    let made = c .before .before in
-    let sized : Sized (made .before .args .plan) = search needs in
-    let calling : length (made .call-table .result .cells) ≡ nodes * nodes = search needs in
-    let stepping : length (c .before .step-table .result .cells) ≡ nodes * nodes = search needs in
+    let plan = c .before .before .before .args .plan in
+    let sized : Sized plan = search needs in
+    let edges = c .before .before .call-table in
+    let steps = c .before .step-table in
+    let calling : length (edges .result .cells) ≡ nodes * nodes = search needs in
+    let stepping : length (steps .result .cells) ≡ nodes * nodes = search needs in
     Iff·trans (c .circular .ensures)
-    (circle-tables (made .call-table .result .cells) calling (made .before .args .plan) sized (c .before .step-table .result .cells) stepping (made .call-table .ensures) (c .before .step-table .ensures))
+    (circle-tables (edges .result .cells) calling plan sized (steps .result .cells) stepping (edges .ensures) (steps .ensures))
 
 pub self-depends-spec : {M : Type 1} → statement M
 self-depends-spec =

@@ -40,10 +40,12 @@ loop-less c = omega arith
 
 loop-again : tie.Need-loop-again Inv-loop μ-loop
 loop-again c =
-    let at-loop = c .before .before .before .before in (
-      rows-more (at-loop .loop .cells) (c .before .step-row .last .0) (site-steps (records-of (at-loop .before .before .before .args .plan))) (at-loop .loop .n) (at-loop .loop .inv .0) (c .before .step-row .ensures),
+    let at-loop = c .before .before .before .before in
+    let steps = site-steps (records-of (at-loop .before .before .before .args .plan)) in
+    let row = c .before .step-row in (
+      rows-more (at-loop .loop .cells) (row .last .0) steps (at-loop .loop .n) (at-loop .loop .inv .0) (row .ensures),
       omega (arith, at-loop),
-      omega (arith, at-loop .loop .inv .2, c .before .step-row .kept .0),
+      omega (arith, at-loop .loop .inv .2, row .kept .0),
     )
 
 returns : tie.Need-returns Inv-loop μ-loop
