@@ -20,28 +20,31 @@ fn calls_from(from: usize, counts: &[u8]) -> usize
     requires { ⌜ (from ≤ 64) × (length (now counts) ≡ 64) ⌝ }
     ensures { λ r. ⌜ r ≡ above (now (counts .entry)) from ⌝ }
 {
-    let mut sum = 0;
+    let mut sum: u16 = 0;
     let mut k = from;
     while k < Site::THREADS {
-        sum += counts[k] as usize;
+        sum += counts[k] as u16;
         k += 1;
     }
-    sum
+    sum as usize
 }
 
-// Whether no level has too many calls, from the highest level down. No level at or above `threads` has any.
+// Whether no level has too many calls, from the highest level down: `left` is what a level and those above it leave of the threads that they may
+// hold. No level at or above `threads` has a call.
 fn lawful_below(threads: usize, counts: &[u8]) -> bool
     requires { ⌜ (threads ≤ 64) × (length (now counts) ≡ 64) × (above (now counts) threads ≡ 0) ⌝ }
     ensures { λ r. ⌜ r ≡ lawful threads (now (counts .entry)) ⌝ }
 {
-    let mut sum = 0;
+    let mut left = 0;
     let mut k = threads;
     while 0 < k {
         k -= 1;
-        sum += counts[k] as usize;
-        if threads - k < sum {
+        left += 1;
+        let count = counts[k] as usize;
+        if left < count {
             return false;
         }
+        left -= count;
     }
     true
 }

@@ -38,7 +38,10 @@ loop-again : tie.Need-loop-again Inv-loop μ-loop
 loop-again c =
     let a = now (c .before .before .before .args .counts) in
     let k = c .before .before .loop .k in
-    omega (arith, c .shared-slice-known .given (c .before .before .loop .k), A-step a k, ap (A a) (add-one k))
+    omega (arith, c .shared-slice-known .given k, A-step a k, ap (A a) (add-one k))
+
+cast-result : tie.Need-cast-result Inv-loop μ-loop
+cast-result c = omega arith
 
 returns : tie.Need-returns Inv-loop μ-loop
 returns c = omega (arith, A-end (now (c .before .before .args .counts)) (c .before .loop .k) (omega arith))
@@ -56,4 +59,5 @@ calls-from-spec =
     add-k
     loop-less
     loop-again
+    cast-result
     returns)
