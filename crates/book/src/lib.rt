@@ -4,6 +4,7 @@ ghost use mathlib.Core.Path.{_≡_};
 ghost use mathlib.Core.Bool.{not};
 ghost use Prim.Native.Nat.{_≤_};
 ghost use lib.ListN.{length};
+ghost use Rattle.ids.specs.Limits.{most-threads};
 ghost use Rattle.model.specs.Site.{A as above, lawful, refused};
 ghost use Rattle.model.specs.Answers.{toldLevel, toldAdmission, toldRoom, level-answer, admission-answer, room-answer, firmware};
 use ids::Level;
@@ -17,7 +18,7 @@ const REFUSED: u8 = 255;
 
 // The active calls of level `from` and higher.
 fn calls_from(from: usize, counts: &[u8]) -> usize
-    requires { ⌜ (from ≤ 64) × (length (now counts) ≡ 64) ⌝ }
+    requires { ⌜ (from ≤ most-threads) × (length (now counts) ≡ most-threads) ⌝ }
     ensures { λ r. ⌜ r ≡ above (now (counts .entry)) from ⌝ }
 {
     let mut sum: u16 = 0;
@@ -32,7 +33,7 @@ fn calls_from(from: usize, counts: &[u8]) -> usize
 // Whether no level has too many calls, from the highest level down: `left` is what a level and those above it leave of the threads that they may
 // hold. No level at or above `threads` has a call.
 fn lawful_below(threads: usize, counts: &[u8]) -> bool
-    requires { ⌜ (threads ≤ 64) × (length (now counts) ≡ 64) × (above (now counts) threads ≡ 0) ⌝ }
+    requires { ⌜ (threads ≤ most-threads) × (length (now counts) ≡ most-threads) × (above (now counts) threads ≡ 0) ⌝ }
     ensures { λ r. ⌜ r ≡ lawful threads (now (counts .entry)) ⌝ }
 {
     let mut left = 0;

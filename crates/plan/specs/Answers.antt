@@ -10,10 +10,15 @@ use Rattle.model.specs.PlanValue.{value, refusal-number, toldRead, reading-told
 use Rattle.model.specs.declared.Plan.{Plan}
 use Rattle.plan.specs.declared.Stop.{Stop}
 use Rattle.model.specs.declared.PlanRead.{PlanRead}
+use Rattle.model.specs.declared.PlanRefusal.{PlanRefusal}
+use Rattle.model.specs.declared.ReadAnswer.{ReadAnswer}
 
 -- the answer tells what the reading tells, and the plan is the reading's
 abbrev pub Answers : PlanRead → Reading → Type 0
 Answers r reading = (toldRead (r .answer) ≡ reading-told reading) × (r .plan ≡ reading-plan reading)
+
+abbrev pub refusal : PlanRefusal → ℕ → Plan → PlanRead
+refusal why at back = record { answer = ReadAnswer.Refused why at; plan = back }
 
 -- the plan holds some passing records, which the bytes begin with; behind them stands the end record, or the fault for which a reading is refused
 -- there

@@ -4,9 +4,9 @@ ghost use mathlib.Core.Bool.{true};
 ghost use Prim.Native.Nat.{_<_, _^_};
 ghost use lib.Dec.{eqb};
 ghost use Rattle.model.specs.Plan.{six, passes, end-fault};
-ghost use Rattle.model.specs.Reading.{refused as refused-at, finish, read as reading};
-ghost use Rattle.model.specs.PlanValue.{empty-plan, value, records-of, refusal-number};
-ghost use Rattle.plan.specs.Answers.{Answers, Stops};
+ghost use Rattle.model.specs.Reading.{finish, read as reading};
+ghost use Rattle.model.specs.PlanValue.{empty-plan, value, records-of};
+ghost use Rattle.plan.specs.Answers.{Answers, Stops, refusal};
 use ids::Node;
 use ids::Site;
 use model::Plan;
@@ -43,13 +43,13 @@ pub fn empty() -> Plan
     }
 }
 
-// A refusal at an offset, with the empty plan.
-fn refused(why: PlanRefusal, at: usize) -> PlanRead
-    ensures { λ r. ⌜ Answers r (refused-at (refusal-number why) at) ⌝ }
+// A refusal at an offset, with the plan that is handed back.
+fn refused(why: PlanRefusal, at: usize, back: Plan) -> PlanRead
+    ensures { λ r. ⌜ r ≡ refusal why at back ⌝ }
 {
     PlanRead {
         answer: ReadAnswer::Refused(why, at),
-        plan: empty(),
+        plan: back,
     }
 }
 
@@ -59,10 +59,10 @@ fn finished(plan: Plan, at: usize) -> PlanRead
     ensures { λ r. ⌜ Answers r (finish (eqb (end-fault (records-of plan)) 0) (records-of plan) at) ⌝ }
 {
     if cycles::loops(plan) {
-        return refused(PlanRefusal::Loop, at);
+        return refused(PlanRefusal::Loop, at, empty());
     }
     if cycles::self_depends(plan) {
-        return refused(PlanRefusal::SelfDependence, at);
+        return refused(PlanRefusal::SelfDependence, at, empty());
     }
     PlanRead {
         answer: ReadAnswer::Accepted(at + 1),
@@ -116,9 +116,10 @@ pub fn read(bytes: &[u8]) -> PlanRead
 {
     let scanned = scan(bytes);
     let plan = scanned.plan;
+    let none = empty();
     let stop = scanned.stop;
     match stop {
         Stop::End(at) => finished(plan, at),
-        Stop::Refused(why, at) => refused(why, at),
+        Stop::Refused(why, at) => refused(why, at, none),
     }
 }
