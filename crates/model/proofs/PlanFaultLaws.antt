@@ -7,7 +7,7 @@ use mathlib.Core.Logic.{_↔_}
 use mathlib.Core.Bool.{Bool, true, false, cond}
 use mathlib.Core.List.{List, [], _∷_}
 use lib.Dec.{eqb, ltb}
-use borrow.Author.Tests.{eqb-true, eqb-false, eq-eqb, ltb-true, ltb-false}
+use borrow.Author.Tests.{eqb-true, eqb-false, eq-eqb, ne-eqb, ltb-true, ltb-false}
 use Rattle.ids.specs.Limits.{most-edges}
 use Rattle.model.specs.Plan.{Record, six, record-fault, passes, end-fault}
 use Rattle.model.specs.Reading.{PlanOk}
@@ -26,6 +26,16 @@ none-of-two a b = go (eqb a 0) refl
     go : (t : Bool) → eqb a 0 ≡ t → (cond t b a ≡ 0) ↔ ((a ≡ 0) × (b ≡ 0))
     go true e = ((λ z. (eqb-true a 0 e, z)), (λ h. h .1))
     go false e = ((λ z. absurd (eqb-false a 0 e z)), (λ h. h .0))
+
+-- a record behind a fault leaves it, and behind none its own fault is the first
+module _ (rs : List Record) (r : Record) where
+  pub fault-kept : (records-fault rs ≡ 0 → ⊥) → records-fault (r ∷ rs) ≡ records-fault rs
+  unfolding records-fault
+  fault-kept bad = rw (ne-eqb (records-fault rs) 0 bad)
+
+  pub fault-new : records-fault rs ≡ 0 → records-fault (r ∷ rs) ≡ record-fault six rs r
+  unfolding records-fault
+  fault-new none = rw (eq-eqb (records-fault rs) 0 none)
 
 -- no record has a fault exactly when they pass
 pub records-fault-none : (rs : List Record) → (records-fault rs ≡ 0) ↔ (passes six rs ≡ true)

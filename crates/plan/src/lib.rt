@@ -5,10 +5,8 @@ ghost use Prim.Native.Nat.{_<_, _^_};
 ghost use lib.Dec.{eqb};
 ghost use Rattle.model.specs.Plan.{six, passes, end-fault};
 ghost use Rattle.model.specs.Reading.{refused as refused-at, finish, read as reading};
-ghost use Rattle.model.specs.PlanValue.{empty-plan, value, records-of, refusal-number};
+ghost use Rattle.model.specs.PlanValue.{value, records-of, refusal-number};
 ghost use Rattle.plan.specs.Answers.{Answers, Stops};
-use ids::Node;
-use ids::Site;
 use model::Plan;
 use model::PlanRead;
 use model::PlanRecord;
@@ -29,27 +27,13 @@ pub struct Scanned {
     pub plan: Plan,
 }
 
-// The plan with no records.
-pub fn empty() -> Plan
-    ensures { λ r. ⌜ r ≡ empty-plan ⌝ }
-{
-    Plan {
-        threads: [0; Site::COUNT],
-        places: [Plan::NOWHERE; Node::COUNT],
-        levels: [0; Node::COUNT],
-        callers: [0; Node::EDGES],
-        callees: [0; Node::EDGES],
-        edges: 0,
-    }
-}
-
 // A refusal at an offset, with the empty plan.
 fn refused(why: PlanRefusal, at: usize) -> PlanRead
     ensures { λ r. ⌜ Answers r (refused-at (refusal-number why) at) ⌝ }
 {
     PlanRead {
         answer: ReadAnswer::Refused(why, at),
-        plan: empty(),
+        plan: record::empty(),
     }
 }
 
@@ -74,7 +58,7 @@ fn finished(plan: Plan, at: usize) -> PlanRead
 pub fn scan(bytes: &[u8]) -> Scanned
     ensures { λ r. ⌜ Stops (now (bytes .entry)) (r .plan) (r .stop) ⌝ }
 {
-    let mut plan = empty();
+    let mut plan = record::empty();
     let mut last = PlanRecord::End;
     let mut at = 0;
     loop {

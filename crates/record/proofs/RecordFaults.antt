@@ -1,30 +1,21 @@
 -- The checks over the plan's value are the checks on the records that it holds: the lookups agree, and the record before is the last one.
 -- Assumes nothing.
-use Prim.Native.Nat.{ℕ}
+use Prim.Native.Nat.{ℕ, suc}
+use native.Mathlib.Omega.{arith}
 use borrow.Author.Tests.{ltb-true}
 use mathlib.Core.Path.{_≡_, refl, sym, ap, ap₂, _∙_}
-use mathlib.Core.Bool.{Bool, true, not, _&&_, cond}
+use mathlib.Core.Bool.{Bool, true, false, not, _&&_, cond}
 use mathlib.Core.List.{List, [], _∷_}
 use lib.Dec.{ltb, leb, eqb}
 use Rattle.ids.specs.Limits.{sites, most-threads, nodes, most-edges}
 use Rattle.lists.proofs.CountLaws.{and-left}
 use Rattle.model.specs.Plan.{Record, site, node, edge, place, present, edges, six, follows, in-range, known, level-below, room-for, record-fault, passes}
-use Rattle.model.specs.PlanValue.{value}
+use Rattle.model.specs.PlanValue.{value, stored}
 use Rattle.model.specs.declared.PlanRecord.{PlanRecord}
-use Rattle.model.proofs.FaultLaws.{record-sound}
-use Rattle.model.proofs.PlanValueLaws.{edges-value, threads-value, present-value}
-use Rattle.record.specs.Step.{follows-last, fault-in, Storable}
-
--- a record of the plan as a record of the file
-abbrev pub of-record : Record → PlanRecord
-of-record (site s t) = PlanRecord.Site (record { 0 = s }) t
-of-record (node n s l) = PlanRecord.Node (record { 0 = n }) (record { 0 = s }) (record { 0 = l })
-of-record (edge c d) = PlanRecord.Edge (record { 0 = c }) (record { 0 = d })
-
--- the record before, `End` where there is none
-abbrev pub last-of : List Record → PlanRecord
-last-of [] = PlanRecord.End
-last-of (r ∷ rs) = of-record r
+use Rattle.model.proofs.PlanValueLaws.{edges-value, threads-value, present-value, refusal-named, refusal-injective}
+use Rattle.model.specs.declared.Plan.{Plan}
+use Rattle.record.specs.Step.{of-record, last-of, follows-last, listed-node, fault-of, fault-in, Storable, stored-in, toldCheck}
+use Rattle.record.specs.declared.Checked.{Checked}
 
 follows-same : (rs : List Record) (r : Record) → follows-last (last-of rs) (of-record r) ≡ follows rs r
 unfolding follows
@@ -56,9 +47,31 @@ module _ (rs : List Record) (p : passes six rs ≡ true) where
       (ap₂ _&&_ (sym (present-value rs p c)) (sym (present-value rs p d)))
       ∙ ap (λ (e : ℕ). cond (follows rs (edge c d)) (cond (present (place rs c) && present (place rs d)) (cond (ltb e most-edges) 0 9) 5) 3) (edges-value rs)
 
-  -- a record that passes has a place in the value
-  pub storable : (r : Record) → record-fault six rs r ≡ 0 → Storable (value rs) (of-record r)
-  unfolding in-range room-for
-  storable (site s t) e = ltb-true s sites (and-left (ltb s sites) (ltb 0 t && leb t most-threads) (record-sound rs (site s t) .0 e .1))
-  storable (node n s l) e = ltb-true n nodes (record-sound rs (node n s l) .0 e .1)
-  storable (edge c d) e = ltb-true (value rs .edges) most-edges (ap (λ (n : ℕ). ltb n most-edges) (edges-value rs) ∙ record-sound rs (edge c d) .0 e .4)
+-- a test that gives no number holds
+held : (b : Bool) (x n : ℕ) → cond b x (suc n) ≡ 0 → (b ≡ true) × (x ≡ 0)
+held true x n e = (refl, e)
+held false x n e = absurd (omega arith)
+
+-- a record that passes its checks has a place in the value
+pub storable : (p : Plan) (last r : PlanRecord) → fault-in p last r ≡ 0 → Storable p r
+storable p last r e = go r (held (follows-last last r) (fault-of p r) 2 e .1)
+  where
+    go : (q : PlanRecord) → fault-of p q ≡ 0 → Storable p q
+    go (PlanRecord.Site s t) f =
+        ltb-true (s .0) sites (and-left (ltb (s .0) sites) (ltb 0 t && leb t most-threads) (held (ltb (s .0) sites && (ltb 0 t && leb t most-threads)) 0 3 f .0))
+    go (PlanRecord.Node n s l) f = ltb-true (n .0) nodes (held (ltb (n .0) nodes) _ 3 f .0)
+    go (PlanRecord.Edge c d) f =
+        ltb-true (p .edges) most-edges (held (ltb (p .edges) most-edges) 0 8 (held (listed-node p (c .0) && listed-node p (d .0)) _ 4 f .1) .0)
+    go PlanRecord.End f = tt
+
+pub stored-same : (p : Plan) (r : Record) → stored-in p (of-record r) ≡ stored p r
+stored-same p (site s t) = refl
+stored-same p (node n s l) = refl
+stored-same p (edge c d) = refl
+
+-- the number of a check's answer determines it
+pub check-injective : (a b : Checked) → toldCheck a ≡ toldCheck b → a ≡ b
+check-injective Checked.Passed Checked.Passed e = refl
+check-injective Checked.Passed (Checked.Refused w) e = absurd (refusal-named w .1 (sym e))
+check-injective (Checked.Refused w) Checked.Passed e = absurd (refusal-named w .1 e)
+check-injective (Checked.Refused w) (Checked.Refused x) e = ap Checked.Refused (refusal-injective w x e)
