@@ -67,9 +67,9 @@ module _ (old : Audit) (next : PlanRecord) where
 -- The records one after the other, in what code makes of a turn: the record is taken up, or there is none
 
 module _ {rs : List Record} {old new : Audit} (so : Taken rs old) where
-  more : (r : Record) {next : PlanRecord} → next ≡ of-record r → (qs : List Record) → qs ≡ r ∷ rs → (took : Audit) → Takes old next took → new ≡ took → Taken qs new
-  more r e qs q took how same =
-      subst (λ (l : List Record). Taken l new) (sym q) (subst (Taken (r ∷ rs)) (sym same) (how rs r so e))
+  more : (r : Record) (qs : List Record) → qs ≡ r ∷ rs → (took : Audit) → Takes old (of-record r) took → new ≡ took → Taken qs new
+  more r qs q took how same =
+      subst (λ (l : List Record). Taken l new) (sym q) (subst (Taken (r ∷ rs)) (sym same) (how rs r so refl))
 
   no-more : (qs : List Record) → qs ≡ rs → new ≡ old → Taken qs new
   no-more qs q same = subst (λ (l : List Record). Taken l new) (sym q) (subst (Taken rs) (sym same) so)
@@ -92,11 +92,11 @@ module _ (p : Plan) where
   edges-all audit i e so = subst (λ (k : ℕ). Taken (edges-to p k) audit) e so
 
   module _ (s : ℕ) {old new : Audit} (so : Taken (sites-to p s) old) where
-    pub site-more : (took : Audit) → (getD (p .threads) s 0 ≡ 0 → ⊥) → Takes old (PlanRecord.Site (record { 0 = s }) (getD (p .threads) s 0)) took → new ≡ took
-        → Taken (sites-to p (s + 1)) new
+    pub site-more : (took : Audit) → (getD (p .threads) s 0 ≡ 0 → ⊥)
+        → Takes old (PlanRecord.Site (record { 0 = s }) (getD (p .threads) s 0)) took → new ≡ took → Taken (sites-to p (s + 1)) new
     unfolding sites-to
     site-more took listed how same =
-        more so (site s (getD (p .threads) s 0)) refl (sites-to p (s + 1)) (rw (add-one, ne-eqb (getD (p .threads) s 0) 0 listed)) took how same
+        let t = getD (p .threads) s 0 in more so (site s t) (sites-to p (s + 1)) (rw (add-one, ne-eqb t 0 listed)) took how same
 
     pub site-none : getD (p .threads) s 0 ≡ 0 → new ≡ old → Taken (sites-to p (s + 1)) new
     unfolding sites-to
@@ -109,18 +109,20 @@ module _ (p : Plan) where
 
     module _ {old new : Audit} (so : Taken (nodes-to p n) old) where
       pub node-more : (took : Audit) → getD (p .places) n 0 < sites
-          → Takes old (PlanRecord.Node (record { 0 = n }) (record { 0 = getD (p .places) n 0 }) (record { 0 = getD (p .levels) n 0 })) took → new ≡ took
-          → Taken (nodes-to p (n + 1)) new
+          → Takes old (PlanRecord.Node (record { 0 = n }) (record { 0 = getD (p .places) n 0 }) (record { 0 = getD (p .levels) n 0 })) took
+          → new ≡ took → Taken (nodes-to p (n + 1)) new
       unfolding nodes-to
       node-more took listed how same =
-          more so (node n (getD (p .places) n 0) (getD (p .levels) n 0)) refl (nodes-to p (n + 1)) (rw (add-one, at, lt-ltb (getD (p .places) n 0) sites listed)) took how same
+          let s = getD (p .places) n 0 in
+          more so (node n s (getD (p .levels) n 0)) (nodes-to p (n + 1)) (rw (add-one, at, lt-ltb s sites listed)) took how same
 
       pub node-none : sites ≤ getD (p .places) n 0 → new ≡ old → Taken (nodes-to p (n + 1)) new
       unfolding nodes-to
       node-none none same = no-more so (nodes-to p (n + 1)) (rw (add-one, at, le-ltb (getD (p .places) n 0) sites none)) same
 
   pub edge-more : (i : ℕ) (old took : Audit) → Taken (edges-to p i) old
-      → Takes old (PlanRecord.Edge (record { 0 = getD (p .callers) i 0 }) (record { 0 = getD (p .callees) i 0 })) took → Taken (edges-to p (i + 1)) took
+      → Takes old (PlanRecord.Edge (record { 0 = getD (p .callers) i 0 }) (record { 0 = getD (p .callees) i 0 })) took
+      → Taken (edges-to p (i + 1)) took
   unfolding edges-to
   edge-more i old took so how =
-      more so (edge (getD (p .callers) i 0) (getD (p .callees) i 0)) refl (edges-to p (i + 1)) (rw add-one) took how refl
+      more so (edge (getD (p .callers) i 0) (getD (p .callees) i 0)) (edges-to p (i + 1)) (rw add-one) took how refl

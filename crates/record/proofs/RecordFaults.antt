@@ -1,5 +1,5 @@
--- The checks over the plan's value are the checks on the records that it holds: the lookups agree, and the record before is the last one.
--- Assumes nothing.
+-- The checks over the plan's value are the checks on the records that it holds: the lookups agree, and the record before is the last one. A record
+-- that passes can be stored, and the number of an answer determines it. Assumes nothing.
 use Prim.Native.Nat.{ℕ, suc}
 use native.Mathlib.Omega.{arith}
 use borrow.Author.Tests.{ltb-true}
@@ -9,11 +9,11 @@ use mathlib.Core.List.{List, [], _∷_}
 use lib.Dec.{ltb, leb, eqb}
 use Rattle.ids.specs.Limits.{sites, most-threads, nodes, most-edges}
 use Rattle.lists.proofs.CountLaws.{and-left}
-use Rattle.model.specs.Plan.{Record, site, node, edge, place, present, edges, six, follows, in-range, known, level-below, room-for, record-fault, passes}
+use Rattle.model.specs.Plan.{Record, site, node, edge, place, present, six, follows, in-range, known, level-below, room-for, record-fault, passes}
 use Rattle.model.specs.PlanValue.{value, stored}
+use Rattle.model.specs.declared.Plan.{Plan}
 use Rattle.model.specs.declared.PlanRecord.{PlanRecord}
 use Rattle.model.proofs.PlanValueLaws.{edges-value, threads-value, present-value, refusal-named, refusal-injective}
-use Rattle.model.specs.declared.Plan.{Plan}
 use Rattle.record.specs.Step.{of-record, last-of, follows-last, listed-node, fault-of, fault-in, Storable, stored-in, toldCheck}
 use Rattle.record.specs.declared.Checked.{Checked}
 
@@ -58,10 +58,12 @@ storable p last r e = go r (held (follows-last last r) (fault-of p r) 2 e .1)
   where
     go : (q : PlanRecord) → fault-of p q ≡ 0 → Storable p q
     go (PlanRecord.Site s t) f =
-        ltb-true (s .0) sites (and-left (ltb (s .0) sites) (ltb 0 t && leb t most-threads) (held (ltb (s .0) sites && (ltb 0 t && leb t most-threads)) 0 3 f .0))
+        let more = ltb 0 t && leb t most-threads in
+        ltb-true (s .0) sites (and-left (ltb (s .0) sites) more (held (ltb (s .0) sites && more) 0 3 f .0))
     go (PlanRecord.Node n s l) f = ltb-true (n .0) nodes (held (ltb (n .0) nodes) _ 3 f .0)
     go (PlanRecord.Edge c d) f =
-        ltb-true (p .edges) most-edges (held (ltb (p .edges) most-edges) 0 8 (held (listed-node p (c .0) && listed-node p (d .0)) _ 4 f .1) .0)
+        let known-both = held (listed-node p (c .0) && listed-node p (d .0)) (cond (ltb (p .edges) most-edges) 0 9) 4 f in
+        ltb-true (p .edges) most-edges (held (ltb (p .edges) most-edges) 0 8 (known-both .1) .0)
     go PlanRecord.End f = tt
 
 pub stored-same : (p : Plan) (r : Record) → stored-in p (of-record r) ≡ stored p r

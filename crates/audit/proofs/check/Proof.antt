@@ -25,7 +25,9 @@ enum-told c = search needs
 
 returns-2 : tie.Need-returns-2
 returns-2 c =
-    record-found (c .before .before .before .before .before .args .plan) (omega arith) _ (c .before .before .take-records .ensures .fault-is) (real (c .enum-told .given .1))
+    record-found (c .before .before .before .before .before .args .plan) (omega arith) _
+    (c .before .before .take-records .ensures .fault-is)
+    (real (c .enum-told .given .1))
 
 enum-told-2 : tie.Need-enum-told-2
 enum-told-2 c = search needs
@@ -45,23 +47,32 @@ seven c =
 
 returns-3 : tie.Need-returns-3
 returns-3 c =
-    loop-found (c .before .before .before .before .before .before .before .args .plan) (omega arith) (no-fault (c .before .before)) (sym (seven (c .before)) ∙ c .if2 .taken)
+    loop-found (c .before .before .before .before .before .before .before .args .plan) (omega arith)
+    (no-fault (c .before .before))
+    (sym (seven (c .before)) ∙ c .if2 .taken)
 
 self-depends-requires : tie.Need-self-depends-requires
 self-depends-requires c κs = search needs
 
-eight : (c : tie.After-self-depends) → c .self-depends .result ≡ self-depends (records-of (c .before .before .before .before .before .before .before .before .args .plan))
+eight : (c : tie.After-self-depends)
+    → c .self-depends .result ≡ self-depends (records-of (c .before .before .before .before .before .before .before .before .args .plan))
 eight c =
     let rs = records-of (c .before .before .before .before .before .before .before .before .args .plan) in
     self-depends-told rs (records-fault-none rs .0 (no-fault (c .before .before .before))) _ (c .self-depends .ensures)
 
 returns-4 : tie.Need-returns-4
 returns-4 c =
-    dependence-found (c .before .before .before .before .before .before .before .before .before .args .plan) (omega arith) (no-fault (c .before .before .before .before)) (sym (seven (c .before .before .before)) ∙ c .before .before .if2 .left) (sym (eight (c .before)) ∙ c .if3 .taken)
+    dependence-found (c .before .before .before .before .before .before .before .before .before .args .plan) (omega arith)
+    (no-fault (c .before .before .before .before))
+    (sym (seven (c .before .before .before)) ∙ c .before .before .if2 .left)
+    (sym (eight (c .before)) ∙ c .if3 .taken)
 
 returns-5 : tie.Need-returns-5
 returns-5 c =
-    none-found (c .before .before .before .before .before .before .before .before .before .args .plan) (omega arith) (no-fault (c .before .before .before .before)) (sym (seven (c .before .before .before)) ∙ c .before .before .if2 .left) (sym (eight (c .before)) ∙ c .if3 .left)
+    none-found (c .before .before .before .before .before .before .before .before .before .args .plan) (omega arith)
+    (no-fault (c .before .before .before .before))
+    (sym (seven (c .before .before .before)) ∙ c .before .before .if2 .left)
+    (sym (eight (c .before)) ∙ c .if3 .left)
 
 pub check-spec : {M : Type 1} → statement M
 check-spec =

@@ -27,7 +27,8 @@ returns-2 : tie.Need-returns-2
 returns-2 c =
     let s = c .before .before .before .before .before .before in
     let check = c .before .before .check in
-    found (s .args .audit) (s .args .next) (ap toldCheck (c .before .before .before .before .enum-told2 .given .1)) (check .result) (check .ensures) (real (c .enum-told3 .given .1))
+    let passed = c .before .before .before .before .enum-told2 .given .1 in
+    found (s .args .audit) (s .args .next) (ap toldCheck passed) (check .result) (check .ensures) (real (c .enum-told3 .given .1))
 
 enum-told-4 : tie.Need-enum-told-4
 enum-told-4 c = search needs
@@ -35,13 +36,15 @@ enum-told-4 c = search needs
 store-requires : tie.Need-store-requires
 store-requires c κs =
     let s = c .before .before .before .before .before .before in
-    storable (s .args .audit .plan) (s .args .audit .last) (s .args .next) (sym (c .before .before .check .ensures) ∙ ap toldCheck (c .enum-told4 .given .1))
+    storable (s .args .audit .plan) (s .args .audit .last) (s .args .next)
+    (sym (c .before .before .check .ensures) ∙ ap toldCheck (c .enum-told4 .given .1))
 
 returns-3 : tie.Need-returns-3
 returns-3 c =
     let s = c .before .before .before .before .before .before .before in
     let check = c .before .before .before .check in
-    held-now (s .args .audit) (s .args .next) (ap toldCheck (c .before .before .before .before .before .enum-told2 .given .1)) (check .result) (check .ensures) (c .store .result) (c .store .ensures)
+    let passed = c .before .before .before .before .before .enum-told2 .given .1 in
+    held-now (s .args .audit) (s .args .next) (ap toldCheck passed) (check .result) (check .ensures) (c .store .result) (c .store .ensures)
 
 pub take-spec : {M : Type 1} → statement M
 take-spec =

@@ -61,7 +61,9 @@ loop-again c =
     )
 
 returns : tie.Need-returns Inv-loop μ-loop
-returns c = subst (λ (n : ℕ). Taken (nodes-to (c .before .before .before .args .t1) n) (c .before .loop .audit)) (omega arith) (c .before .loop .inv .0)
+returns c =
+    let at-loop = c .before in
+    subst (λ (n : ℕ). Taken (nodes-to (at-loop .before .before .args .t1) n) (at-loop .loop .audit)) (omega arith) (at-loop .loop .inv .0)
 
 pub take-nodes-spec : {M : Type 1} → statement M
 take-nodes-spec =

@@ -49,7 +49,9 @@ loop-again c =
     )
 
 returns : tie.Need-returns Inv-loop μ-loop
-returns c = subst (λ (s : ℕ). Taken (sites-to (c .before .before .before .args .t1) s) (c .before .loop .audit)) (omega arith) (c .before .loop .inv .0)
+returns c =
+    let at-loop = c .before in
+    subst (λ (s : ℕ). Taken (sites-to (at-loop .before .before .args .t1) s) (at-loop .loop .audit)) (omega arith) (at-loop .loop .inv .0)
 
 pub take-sites-spec : {M : Type 1} → statement M
 take-sites-spec =
