@@ -9,4 +9,5 @@ pub mod ReadingLaws
 pub mod RecordLaws
 pub mod PlanLaws
 pub mod PlanValueLaws
+pub mod PlanFaultLaws
 pub mod LevelSheet

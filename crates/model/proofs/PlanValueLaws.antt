@@ -467,7 +467,7 @@ refusal-of n =
     (cond (eqb n 8) PlanRefusal.SelfDependence PlanRefusal.TooManyEdges)))))))
 
 -- and none is 0
-refusal-named : (w : PlanRefusal) → (refusal-of (refusal-number w) ≡ w) × (refusal-number w ≡ 0 → ⊥)
+pub refusal-named : (w : PlanRefusal) → (refusal-of (refusal-number w) ≡ w) × (refusal-number w ≡ 0 → ⊥)
 refusal-named PlanRefusal.InputEnds = (refl, λ e. omega arith)
 refusal-named PlanRefusal.UnknownKind = (refl, λ e. omega arith)
 refusal-named PlanRefusal.NotRising = (refl, λ e. omega arith)

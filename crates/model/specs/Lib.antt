@@ -10,4 +10,5 @@ pub mod Reading
 pub mod Faults
 pub mod Records
 pub mod PlanValue
+pub mod PlanFault
 pub mod LevelSheet

@@ -1,4 +1,3 @@
 mod TakenLaws
-mod RecordFaults
 mod ReadLaws
 mod FinishLaws

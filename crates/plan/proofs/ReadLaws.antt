@@ -18,7 +18,7 @@ use Rattle.model.specs.Reading.{refused, finish, read}
 use Rattle.model.specs.Faults.{fault-at, fault-in, fault-of}
 use Rattle.model.specs.PlanValue.{value, empty-plan, stored, records-of, refusal-number}
 use Rattle.model.specs.declared.PlanRefusal.{PlanRefusal}
-use Rattle.model.proofs.PlanValueLaws.{records-value}
+use Rattle.model.proofs.PlanValueLaws.{records-value, refusal-named}
 use Rattle.model.specs.declared.Plan.{Plan}
 use Rattle.model.specs.declared.PlanRecord.{PlanRecord}
 use Rattle.model.proofs.FaultLaws.{next-record, next-end}
@@ -28,11 +28,12 @@ use denote.Enum.Declared.{tagOf}
 use Rattle.record.proofs.NextRecord as next-type
 use Rattle.model.proofs.PlanRecord as record-type
 use Rattle.record.specs.Step as step
+use Rattle.record.specs.Step.{of-record, last-of}
+use Rattle.record.proofs.RecordFaults.{fault-same, storable, stored-same}
 use Rattle.record.specs.declared.NextRecord.{NextRecord}
 use Rattle.plan.specs.Answers.{Held, Stops}
 use Rattle.plan.specs.declared.Stop.{Stop}
 use Rattle.plan.proofs.TakenLaws.{as-record, Taken, taken}
-use Rattle.plan.proofs.RecordFaults.{of-record, last-of, fault-same, storable}
 
 -- What a match leaves of an enum
 
@@ -52,18 +53,6 @@ a-record PlanRecord.End p =
     (λ (e : _≡_ {A = ℕ} 3 0). absurd (omega arith))
     (⊎-elim (λ (e : _≡_ {A = ℕ} 3 1). absurd (omega arith)) (λ (e : _≡_ {A = ℕ} 3 2). absurd (omega arith)))
     p
-
--- no refusal has the number 0
-number-real : (why : PlanRefusal) → refusal-number why ≡ 0 → ⊥
-number-real PlanRefusal.InputEnds e = omega arith
-number-real PlanRefusal.UnknownKind e = omega arith
-number-real PlanRefusal.NotRising e = omega arith
-number-real PlanRefusal.OutOfRange e = omega arith
-number-real PlanRefusal.NotListed e = omega arith
-number-real PlanRefusal.LevelTooHigh e = omega arith
-number-real PlanRefusal.Loop e = omega arith
-number-real PlanRefusal.SelfDependence e = omega arith
-number-real PlanRefusal.TooManyEdges e = omega arith
 
 -- and where one was found, the end record was not
 never-end : {found : NextRecord} {to behind : ℕ} (r : PlanRecord) → OneOf (0 ∷ 1 ∷ 2 ∷ []) (tagOf record-type.the-type r)
@@ -193,7 +182,7 @@ module _ (bytes : List ℕ) (plan : Plan) (at : ℕ) (h : Held bytes plan at) wh
         clean = sym checked ∙ sym f
 
         can-store : step.Storable plan (of-record r)
-        can-store = subst (λ (p : Plan). step.Storable p (of-record r)) (sym (h .plan-is)) (storable (h .records) (h .passing) r clean)
+        can-store = storable plan last (of-record r) (sym f)
 
         further : at < behind
         unfolding bytes-of
@@ -213,12 +202,7 @@ module _ (bytes : List ℕ) (plan : Plan) (at : ℕ) (h : Held bytes plan at) wh
             let size : length so-far ≡ behind
             = length-append (records-bytes (h .records)) (bytes-of r) ∙ ap (λ (n : ℕ). n + length (bytes-of r)) (sym (h .at-is)) ∙ sym (stands .2) in
             let rest : drop behind bytes ≡ stands .0 = ap (drop behind) whole ∙ drop-at so-far (stands .0) behind size in
-            record { so-far = record { records = r ∷ h .records; plan-is = same r ∙ ap (λ (p : Plan). stored p r) (h .plan-is); split = whole ∙ ap (λ (l : List ℕ). so-far ++ l) (sym rest); at-is = sym size; passing = passes-step six r (h .records) .1 (h .passing, clean) }; last-is = refl }
-          where
-            same : (q : Record) → step.stored-in plan (of-record q) ≡ stored plan q
-            same (Record.site s t) = refl
-            same (Record.node n s l) = refl
-            same (Record.edge c d) = refl
+            record { so-far = record { records = r ∷ h .records; plan-is = stored-same plan r ∙ ap (λ (p : Plan). stored p r) (h .plan-is); split = whole ∙ ap (λ (l : List ℕ). so-far ++ l) (sym rest); at-is = sym size; passing = passes-step six r (h .records) .1 (h .passing, clean) }; last-is = refl }
 
     -- a record of the file that is not the end record
     module _ (nx : PlanRecord) (behind : ℕ) (e : step.next-in bytes at ≡ NextRecord.Whole nx behind)
@@ -233,7 +217,7 @@ module _ (bytes : List ℕ) (plan : Plan) (at : ℕ) (h : Held bytes plan at) wh
       stopped why f = (
         h,
         (λ rest q. never-end nx k (end-next rest q) e),
-        bad-read (a-record nx k .0) behind place (refusal-number why) (number-real why) (f ∙ same-fault),
+        bad-read (a-record nx k .0) behind place (refusal-number why) (refusal-named why .1) (f ∙ same-fault),
       )
 
       pub stepped : 0 ≡ step.fault-in plan last nx → step.Storable plan nx × (at < behind) × Way bytes (step.stored-in plan nx) nx behind

@@ -5,10 +5,8 @@ ghost use Prim.Native.Nat.{_<_, _^_};
 ghost use lib.Dec.{eqb};
 ghost use Rattle.model.specs.Plan.{six, passes, end-fault};
 ghost use Rattle.model.specs.Reading.{finish, read as reading};
-ghost use Rattle.model.specs.PlanValue.{empty-plan, value, records-of};
+ghost use Rattle.model.specs.PlanValue.{value, records-of};
 ghost use Rattle.plan.specs.Answers.{Answers, Stops, refusal};
-use ids::Node;
-use ids::Site;
 use model::Plan;
 use model::PlanRead;
 use model::PlanRecord;
@@ -29,20 +27,6 @@ pub struct Scanned {
     pub plan: Plan,
 }
 
-// The plan with no records.
-pub fn empty() -> Plan
-    ensures { λ r. ⌜ r ≡ empty-plan ⌝ }
-{
-    Plan {
-        threads: [0; Site::COUNT],
-        places: [Plan::NOWHERE; Node::COUNT],
-        levels: [0; Node::COUNT],
-        callers: [0; Node::EDGES],
-        callees: [0; Node::EDGES],
-        edges: 0,
-    }
-}
-
 // A refusal at an offset, with the plan that is handed back.
 fn refused(why: PlanRefusal, at: usize, back: Plan) -> PlanRead
     ensures { λ r. ⌜ r ≡ refusal why at back ⌝ }
@@ -59,10 +43,10 @@ fn finished(plan: Plan, at: usize) -> PlanRead
     ensures { λ r. ⌜ Answers r (finish (eqb (end-fault (records-of plan)) 0) (records-of plan) at) ⌝ }
 {
     if cycles::loops(plan) {
-        return refused(PlanRefusal::Loop, at, empty());
+        return refused(PlanRefusal::Loop, at, record::empty());
     }
     if cycles::self_depends(plan) {
-        return refused(PlanRefusal::SelfDependence, at, empty());
+        return refused(PlanRefusal::SelfDependence, at, record::empty());
     }
     PlanRead {
         answer: ReadAnswer::Accepted(at + 1),
@@ -74,7 +58,7 @@ fn finished(plan: Plan, at: usize) -> PlanRead
 pub fn scan(bytes: &[u8]) -> Scanned
     ensures { λ r. ⌜ Stops (now (bytes .entry)) (r .plan) (r .stop) ⌝ }
 {
-    let mut plan = empty();
+    let mut plan = record::empty();
     let mut last = PlanRecord::End;
     let mut at = 0;
     loop {
@@ -116,7 +100,7 @@ pub fn read(bytes: &[u8]) -> PlanRead
 {
     let scanned = scan(bytes);
     let plan = scanned.plan;
-    let none = empty();
+    let none = record::empty();
     let stop = scanned.stop;
     match stop {
         Stop::End(at) => finished(plan, at),

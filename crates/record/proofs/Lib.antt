@@ -1,1 +1,2 @@
 mod NextLaws
+pub mod RecordFaults

@@ -6,7 +6,7 @@ use lib.ListN.{length, getD, drop}
 use lib.Dec.{ltb, leb, eqb}
 use Rattle.ids.specs.Limits.{sites, most-threads, nodes, most-edges}
 use Rattle.model.specs.House.{Next, lacking, unknown, cut, whole, next}
-use Rattle.model.specs.Plan.{plan-kinds, first-fault, site, node, edge}
+use Rattle.model.specs.Plan.{Record, plan-kinds, first-fault, site, node, edge}
 use Rattle.model.specs.PlanValue.{refusal-number, nowhere, stored}
 use Rattle.model.specs.declared.Plan.{Plan}
 use Rattle.model.specs.declared.PlanRecord.{PlanRecord}
@@ -29,6 +29,17 @@ from-next (whole kind body rest) at = NextRecord.Whole (record-of kind body) (at
 -- what stands at an offset
 abbrev pub next-in : List ℕ → ℕ → NextRecord
 next-in bytes at = from-next (next plan-kinds (drop at bytes)) at
+
+-- a record of the plan as a record of the file
+abbrev pub of-record : Record → PlanRecord
+of-record (site s t) = PlanRecord.Site (record { 0 = s }) t
+of-record (node n s l) = PlanRecord.Node (record { 0 = n }) (record { 0 = s }) (record { 0 = l })
+of-record (edge c d) = PlanRecord.Edge (record { 0 = c }) (record { 0 = d })
+
+-- the record before, `End` where there is none
+abbrev pub last-of : List Record → PlanRecord
+last-of [] = PlanRecord.End
+last-of (r ∷ rs) = of-record r
 
 -- "the pair (calling, called) strictly rises"
 abbrev pub pair-rises : ℕ → ℕ → ℕ → ℕ → Bool

@@ -2,6 +2,7 @@
 // crate, above which `plan` reads whole plans.
 ghost use mathlib.Core.Path.{_≡_};
 ghost use lib.ListN.{getD};
+ghost use Rattle.model.specs.PlanValue.{empty-plan};
 ghost use Rattle.record.specs.Step.{next-in, follows-last, pair-rises, toldCheck, listed-node, site-fault, node-fault, edge-fault, fault-in, Storable, stored-in};
 use ids::Level;
 use ids::Node;
@@ -22,6 +23,20 @@ pub enum NextRecord {
 pub enum Checked {
     Passed,
     Refused(PlanRefusal),
+}
+
+// The plan with no records.
+pub fn empty() -> Plan
+    ensures { λ r. ⌜ r ≡ empty-plan ⌝ }
+{
+    Plan {
+        threads: [0; Site::COUNT],
+        places: [Plan::NOWHERE; Node::COUNT],
+        levels: [0; Node::COUNT],
+        callers: [0; Node::EDGES],
+        callees: [0; Node::EDGES],
+        edges: 0,
+    }
 }
 
 // The record at an offset.

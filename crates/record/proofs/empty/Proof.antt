@@ -1,10 +1,9 @@
--- `plan::empty` meets its contract: the arrays are those of the empty plan. Assumes nothing.
+-- `record::empty` meets its contract: the arrays are those of the empty plan. Assumes nothing.
 use mathlib.Core.Path.{refl}
 use Rattle.model.specs.PlanValue.{empty-plan}
-use Rattle.plan.proofs.empty.Statement.{statement}
-use Rattle.plan.proofs.empty.Tie as tie
+use Rattle.record.proofs.empty.Statement.{statement}
+use Rattle.record.proofs.empty.Tie as tie
 
--- src/lib.rt:21:1
 returns : tie.Need-returns
 unfolding empty-plan
 returns c = refl

@@ -1,0 +1,2 @@
+mod TakenLaws
+mod CheckLaws

@@ -1,0 +1,118 @@
+// The checks on a plan's value, which may be anybody's: its records are taken up one after the other in the file's order, each by the step that
+// reads a file's record, and then the whole plan is checked. A net is made from a plan that passes.
+ghost use mathlib.Core.Path.{_≡_};
+ghost use Prim.Native.Nat.{_≤_};
+ghost use Rattle.ids.specs.Limits.{sites, nodes, most-edges};
+ghost use Rattle.model.specs.PlanValue.{records-of};
+ghost use Rattle.model.specs.PlanFault.{plan-fault};
+ghost use Rattle.record.specs.Step.{toldCheck};
+ghost use Rattle.audit.specs.Taken.{Taken, Takes, sites-to, nodes-to};
+use ids::Level;
+use ids::Node;
+use ids::Site;
+use model::Plan;
+use model::PlanRecord;
+use model::PlanRefusal;
+use record::Checked;
+
+// Some records that were taken up: their first fault, and as long as there is none the plan of these records and the last one.
+struct Audit {
+    checked: Checked,
+    plan: Plan,
+    last: PlanRecord,
+}
+
+// Takes up one record more. Behind a fault nothing counts.
+fn take(audit: Audit, next: PlanRecord) -> Audit
+    ensures { λ r. ⌜ Takes audit next r ⌝ }
+{
+    let so_far = audit.checked;
+    if let Checked::Refused(_) = so_far {
+        return audit;
+    }
+    let plan = audit.plan;
+    let last = audit.last;
+    let checked = record::check(plan, last, next);
+    if let Checked::Refused(_) = checked {
+        return Audit {
+            checked,
+            plan,
+            last,
+        };
+    }
+    Audit {
+        checked,
+        plan: record::store(plan, next),
+        last: next,
+    }
+}
+
+// The site records.
+fn take_sites(plan: Plan) -> Audit
+    ensures { λ r. ⌜ Taken (sites-to plan sites) r ⌝ }
+{
+    let mut audit = Audit {
+        checked: Checked::Passed,
+        plan: record::empty(),
+        last: PlanRecord::End,
+    };
+    for s in 0..Site::COUNT {
+        let threads = plan.threads[s];
+        if threads != 0 {
+            audit = take(audit, PlanRecord::Site(Site(s as u8), threads));
+        }
+    }
+    audit
+}
+
+// The site records and the node records.
+fn take_nodes(plan: Plan) -> Audit
+    ensures { λ r. ⌜ Taken (nodes-to plan nodes) r ⌝ }
+{
+    let mut audit = take_sites(plan);
+    for n in 0..Node::COUNT {
+        let place = plan.places[n];
+        if (place as usize) < Site::COUNT {
+            let level = plan.levels[n];
+            audit = take(
+                audit,
+                PlanRecord::Node(Node(n as u8), Site(place), Level(level)),
+            );
+        }
+    }
+    audit
+}
+
+// All records of a plan whose edges have places.
+fn take_records(plan: Plan) -> Audit
+    requires { ⌜ plan .edges ≤ most-edges ⌝ }
+    ensures { λ r. ⌜ Taken (records-of plan) r ⌝ }
+{
+    let mut audit = take_nodes(plan);
+    for i in 0..plan.edges {
+        let caller = plan.callers[i];
+        let callee = plan.callees[i];
+        audit = take(audit, PlanRecord::Edge(Node(caller), Node(callee)));
+    }
+    audit
+}
+
+// The first fault of a plan, of those that the checks 3 to 9 name.
+pub fn check(plan: Plan) -> Checked
+    ensures { λ r. ⌜ toldCheck r ≡ plan-fault plan ⌝ }
+{
+    if plan.edges > Node::EDGES {
+        return Checked::Refused(PlanRefusal::TooManyEdges);
+    }
+    let checked = take_records(plan).checked;
+    if let Checked::Refused(_) = checked {
+        return checked;
+    }
+    if cycles::loops(plan) {
+        return Checked::Refused(PlanRefusal::Loop);
+    }
+    if cycles::self_depends(plan) {
+        return Checked::Refused(PlanRefusal::SelfDependence);
+    }
+    Checked::Passed
+}
