@@ -183,13 +183,13 @@ fn one_raised(c: &mut Comparison) {
     }
 }
 
-/// Two checks hold on one record: the earlier one decides. 6 and 9 are never asked of one record, nor are 2 and 9.
+/// Two checks hold on one record: the earlier one decides. The words name the checks that hold. 6 and 9 are never asked of one record.
 fn order_of_checks(c: &mut Comparison) {
     c.group("order of checks");
     let s: &[u8] = &site(3, 5);
     let n: &[u8] = &[2, 7, 3, 4];
     let records = [s, n].concat();
-    let mut cases: Vec<(&str, Vec<u8>, u8, usize)> = vec![
+    let cases: Vec<(&str, Vec<u8>, u8, usize)> = vec![
         ("2, 1", vec![5], 2, 0),
         ("2, 1", [s, &[255]].concat(), 2, 3),
         ("2, 3", [s, &[0, 0, 0]].concat(), 2, 3),
@@ -215,22 +215,28 @@ fn order_of_checks(c: &mut Comparison) {
         ("5, 6", [s, &node(0, 255, 255)].concat(), 5, 3),
         ("7, 8", [&records[..], &edge(7, 7), &END].concat(), 7, 10),
     ];
-    let mut full = Draft::new(1, 1, 18);
-    full.edges = first_pairs(17, 256);
-    let full = full.open();
-    let last = full.len();
-    assert_eq!(full[last - 3..], edge(15, 0));
-    cases.push(("1, 9", [&full[..], &[3, 15]].concat(), 1, last));
-    cases.push(("3, 9", [&full[..], &edge(15, 0)].concat(), 3, last));
-    cases.push(("5, 9", [&full[..], &edge(15, 18)].concat(), 5, last));
-    cases.push(("9 alone", [&full[..], &edge(15, 1)].concat(), 9, last));
-    cases.push(("9 before 7 at the end", [&full[..], &edge(17, 17), &END].concat(), 9, last));
-    let mut both = two_sites(0);
-    both.edges.insert((0, 0));
-    cases.push(("7, 8 by another way", both.bytes(), 7, 31));
     for (_, bytes, number, offset) in &cases {
         c.refused(bytes, *number, *offset);
     }
+    let mut both = two_sites(0);
+    both.edges.insert((0, 0));
+    c.refused(&both.bytes(), 7, 31);
+    order_at_the_257th(c);
+}
+
+/// 1, 3 and 5 stand before 9, and 9 before what the end record would show.
+fn order_at_the_257th(c: &mut Comparison) {
+    let mut full = Draft::new(1, 1, 18);
+    full.edges = first_pairs(17, 256);
+    let open = full.open();
+    assert!(open.ends_with(&edge(15, 0)));
+    let mut behind = |record: &[u8], number| c.refused(&[&open[..], record].concat(), number, open.len());
+    behind(&[3, 15], 1);
+    behind(&edge(15, 0), 3);
+    behind(&edge(0, 64), 3);
+    behind(&edge(15, 18), 5);
+    behind(&edge(15, 1), 9);
+    behind(&[&edge(17, 17)[..], &END].concat(), 9);
 }
 
 /// Each refusal at several offsets: behind some sites, behind some nodes, behind some edges.

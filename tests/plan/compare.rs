@@ -4,7 +4,7 @@ use crate::text::expected;
 use std::io::Write;
 use std::process::{Command, Stdio};
 
-/// The depends program takes no more bytes than this.
+/// The depends program takes no more bytes than this, and leaves the rest unread.
 pub const LONGEST: usize = 1074;
 /// So many mismatches of a group are shown in full.
 const SHOWN: usize = 3;
