@@ -19,6 +19,7 @@ pub fn all(c: &mut Comparison) {
     random_loops(c);
     damaged(c);
     largest(c);
+    behind_the_largest(c);
 }
 
 /// A fixed plan of the largest size: 16 sites, 64 nodes, 256 edges.
@@ -356,6 +357,20 @@ fn damaged(c: &mut Comparison) {
             }
         }
         c.same(&bytes);
+    }
+}
+
+/// Behind the records of a plan of the largest size: a record of each kind, whole and cut.
+fn behind_the_largest(c: &mut Comparison) {
+    c.group("a record behind the largest plan's");
+    let full = largest_plan(13, 0).bytes();
+    let records = &full[..full.len() - 1];
+    c.first_line(&[records, &[3, 63, 63, 4]].concat(), "plan R 9 1072");
+    c.first_line(&[records, &[2, 0, 0, 0]].concat(), "plan R 3 1072");
+    for record in [[1, 0, 1, 4], [2, 63, 15, 0], [3, 0, 0, 4], [3, 63, 62, 4], [3, 64, 63, 4], [5, 0, 0, 0]] {
+        for length in 0..=record.len() {
+            c.same(&[records, &record[..length]].concat());
+        }
     }
 }
 

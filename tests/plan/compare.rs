@@ -5,7 +5,7 @@ use std::io::Write;
 use std::process::{Command, Stdio};
 
 /// The depends program takes no more bytes than this, and leaves the rest unread.
-pub const LONGEST: usize = 1074;
+pub const LONGEST: usize = 1076;
 /// So many mismatches of a group are shown in full.
 const SHOWN: usize = 3;
 

@@ -11,8 +11,8 @@ ghost use mathlib.Core.Path.{_≡_};
 ghost use Prim.Native.Nat.{_<_};
 ghost use lib.ListN.{length};
 
-// The largest plan has 16 sites, 64 nodes, 256 edges and the end record. One byte more is enough to see that a plan is too long.
-const MOST_BYTES: usize = 3 * Site::COUNT + 4 * Node::COUNT + 3 * Node::EDGES + 2;
+// The records of the largest plan, and behind them the longest record: so that whatever stands there is seen whole.
+const MOST_BYTES: usize = 3 * Site::COUNT + 4 * Node::COUNT + 3 * Node::EDGES + 4;
 // A line for each node: its number and a colon, 64 numbers with a space each, and the line's end. The first line is shorter.
 const MOST_TEXT: usize = (Node::COUNT + 1) * (3 * Node::COUNT + 4);
 
