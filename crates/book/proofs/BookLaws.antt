@@ -2,8 +2,9 @@
 -- level may be admitted exactly when it lies below the limit. Assumes nothing.
 use Prim.Native.Nat.{ℕ, _≤_, _<_}
 use native.Mathlib.Omega.{arith}
-use borrow.Author.Tests.{le-leb, lt-leb}
-use mathlib.Core.Path.{_≡_, refl, sym, ap, ap₂, _∙_}
+use borrow.Author.Tests.{le-leb, lt-leb, not-true}
+use Rattle.lists.proofs.CountLaws.{denied, granted, not-false-true}
+use mathlib.Core.Path.{_≡_, sym, ap, ap₂, _∙_}
 use mathlib.Core.Bool.{Bool, true, false, not, cond}
 use mathlib.Core.List.{List, [], _∷_}
 use lib.Dec.{ltb}
@@ -17,12 +18,10 @@ use Rattle.model.proofs.RuleLaws.{admits-below}
 
 -- What the test of the site says
 pub when-unsound : (b r : Bool) → b ≡ not r → not b ≡ true → r ≡ true
-when-unsound b true e n = refl
-when-unsound b false e n = sym (ap not e) ∙ n
+when-unsound b r e n = not-false-true r (denied b (not r) e n)
 
 pub when-sound : (b r : Bool) → b ≡ not r → not b ≡ false → r ≡ false
-when-sound b true e n = sym (ap not e) ∙ n
-when-sound b false e n = refl
+when-sound b r e n = not-true r (granted b (not r) e n)
 
 module _ (T : ℕ) (a : List ℕ) where
   -- A refused site

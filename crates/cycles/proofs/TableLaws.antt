@@ -1,20 +1,20 @@
 -- How the tables of call edges and of steps within a site are filled: a stored byte is one pair more, every other pair is as it was, and the
 -- records of a plan's value say what its arrays hold. Assumes nothing.
-use Prim.Native.Nat.{ℕ, zero, suc, _+_, _*_, _<_, _≤_, min}
-use native.Mathlib.Nat.{not-suc-le-zero, le-of-suc-le-suc}
+use Prim.Native.Nat.{ℕ, _+_, _*_, _<_, _≤_, min}
 use native.Mathlib.Numerals.{add-one}
 use native.Mathlib.Omega.{arith}
 use mathlib.Core.Path.{_≡_, refl, sym, ap, ap₂, _∙_}
 use mathlib.Core.Bool.{Bool, true, false, _&&_, _||_, cond}
-use mathlib.Core.List.{List, [], _∷_}
+use mathlib.Core.List.{List, []}
 use mathlib.Core.Option.{none, some}
 use lib.Dec.{eqb, leb, ltb}
 use lib.ListN.{length, getD, set, replicate, length-set}
 use lib.Seq.{getD-set-same, getD-set-other}
 use mir.Val.{boolByte}
 use borrow.Author.Count.{below-more}
-use borrow.Author.Tests.{eqb-true, eq-eqb, ne-eqb, lt-ltb, le-ltb}
-use Rattle.lists.proofs.CountLaws.{never-both, and-left, and-right, and-both}
+use borrow.Author.Tests.{eqb-true, eqb-false, eq-eqb, ne-eqb, lt-ltb, le-ltb}
+use mathlib.Core.Logic.{⊎-elim}
+use Rattle.lists.proofs.CountLaws.{lt-or-ge, decided, never-both, and-left, and-right, and-both, getD-inside}
 use Rattle.ids.specs.Limits.{sites, nodes, most-edges}
 use Rattle.model.specs.Plan.{Place, calls, site-steps, descends}
 use Rattle.model.specs.PlanValue.{nowhere, edge-records, records-of, held}
@@ -24,7 +24,7 @@ use Rattle.graph.specs.Tables.{lit, on}
 use Rattle.graph.specs.Steps.{Is}
 use Rattle.graph.proofs.StepLaws.{on-lit, lit-ap, byte-lit}
 use Rattle.graph.proofs.TellLaws.{none-on}
-use Rattle.cycles.specs.Within.{Rowed}
+use Rattle.cycles.specs.Within.{steps-in, Rowed}
 
 -- One pair more
 
@@ -81,31 +81,25 @@ call-all p cells i e so n m hn hm =
 
 -- The steps within a site
 
--- within its list an entry is the same whatever stands for those beyond
-entry : (l : List ℕ) (i a b : ℕ) → i < length l → getD l i a ≡ getD l i b
-entry [] i a b h = absurd (not-suc-le-zero h)
-entry (x ∷ l) zero a b h = refl
-entry (x ∷ l) (suc i) a b h = entry l i a b (le-of-suc-le-suc h)
-
 module _ (p : Plan) (sized : Sized p) (n m : ℕ) (hn : n < nodes) where
   steps-held : site-steps (records-of p) n m ≡ descends (held p n) (held p m)
   unfolding site-steps
   steps-held = ap₂ descends (place-of p sized n) (place-of p sized m)
 
   its-site : getD (p .places) n 0 ≡ getD (p .places) n nowhere
-  its-site = entry (p .places) n 0 nowhere (omega (arith, sized .places))
+  its-site = getD-inside (p .places) n 0 nowhere (omega (arith, sized .places))
 
   -- from a node without a record there is none
-  pub step-nowhere : sites ≤ getD (p .places) n 0 → site-steps (records-of p) n m ≡ false
+  step-nowhere : sites ≤ getD (p .places) n 0 → site-steps (records-of p) n m ≡ false
   unfolding held
   step-nowhere h = steps-held ∙ rw (le-ltb (getD (p .places) n nowhere) sites (omega (arith, its-site)))
 
   module _ (hm : m < nodes) (low : getD (p .places) n 0 < sites) where
     its-other : getD (p .places) m 0 ≡ getD (p .places) m nowhere
-    its-other = entry (p .places) m 0 nowhere (omega (arith, sized .places))
+    its-other = getD-inside (p .places) m 0 nowhere (omega (arith, sized .places))
 
     -- nor to a node elsewhere
-    pub step-elsewhere : (getD (p .places) m 0 ≡ getD (p .places) n 0 → ⊥) → site-steps (records-of p) n m ≡ false
+    step-elsewhere : (getD (p .places) m 0 ≡ getD (p .places) n 0 → ⊥) → site-steps (records-of p) n m ≡ false
     unfolding held
     step-elsewhere apart =
         steps-held
@@ -123,7 +117,7 @@ module _ (p : Plan) (sized : Sized p) (n m : ℕ) (hn : n < nodes) where
         go false = refl
 
     -- and at one site the levels decide
-    pub step-level : getD (p .places) m 0 ≡ getD (p .places) n 0 → site-steps (records-of p) n m ≡ leb (getD (p .levels) m 0) (getD (p .levels) n 0)
+    step-level : getD (p .places) m 0 ≡ getD (p .places) n 0 → site-steps (records-of p) n m ≡ leb (getD (p .levels) m 0) (getD (p .levels) n 0)
     unfolding held
     step-level same =
         steps-held
@@ -132,6 +126,24 @@ module _ (p : Plan) (sized : Sized p) (n m : ℕ) (hn : n < nodes) where
           lt-ltb (getD (p .places) m nowhere) sites (omega (arith, its-other)),
           eq-eqb (getD (p .places) n nowhere) (getD (p .places) m nowhere) (sym its-site ∙ sym same ∙ its-other),
         )
+
+-- the steps over the two arrays are those of the plan's records
+pub steps-same : (p : Plan) → Sized p → (n m : ℕ) → n < nodes → m < nodes → steps-in (p .places) (p .levels) n m ≡ site-steps (records-of p) n m
+unfolding steps-in
+steps-same p sized n m hn hm =
+    ⊎-elim
+    (λ (low : getD (p .places) n 0 < sites).
+    ⊎-elim
+    (λ (e : eqb (getD (p .places) m 0) (getD (p .places) n 0) ≡ true).
+    rw (lt-ltb (getD (p .places) n 0) sites low, e)
+    (sym (step-level p sized n m hn hm low (eqb-true (getD (p .places) m 0) (getD (p .places) n 0) e))))
+    (λ (e : eqb (getD (p .places) m 0) (getD (p .places) n 0) ≡ false).
+    rw (lt-ltb (getD (p .places) n 0) sites low, e)
+    (sym (step-elsewhere p sized n m hn hm low (eqb-false (getD (p .places) m 0) (getD (p .places) n 0) e))))
+    (decided (eqb (getD (p .places) m 0) (getD (p .places) n 0))))
+    (λ (high : sites ≤ getD (p .places) n 0).
+    rw (le-ltb (getD (p .places) n 0) sites high) (sym (step-nowhere p sized n m hn high)))
+    (lt-or-ge (getD (p .places) n 0) sites)
 
 -- A row
 

@@ -1,16 +1,23 @@
 -- The part of a relation that a table can hold, and a row of a table. Assumes nothing.
 use Prim.Native.Nat.{ℕ, _<_}
 use mathlib.Core.Path.{_≡_}
-use mathlib.Core.Bool.{Bool, _&&_}
+use mathlib.Core.Bool.{Bool, false, _&&_, cond}
 use mathlib.Core.List.{List}
-use lib.Dec.{ltb}
-use lib.ListN.{length}
-use Rattle.ids.specs.Limits.{nodes}
+use lib.Dec.{ltb, leb, eqb}
+use lib.ListN.{length, getD}
+use Rattle.ids.specs.Limits.{sites, nodes}
 use Rattle.graph.specs.Tables.{on}
 
 -- the pairs of nodes: "Nodes are numbered 0 to 63". A plan that passes its checks has no others
 unfoldable pub within-nodes : (ℕ → ℕ → Bool) → ℕ → ℕ → Bool
 within-nodes relation n m = ltb n nodes && (ltb m nodes && relation n m)
+
+-- a step within a site, over the places and the levels of the nodes
+unfoldable pub steps-in : List ℕ → List ℕ → ℕ → ℕ → Bool
+steps-in places levels n m =
+    cond (ltb (getD places n 0) sites)
+    (cond (eqb (getD places m 0) (getD places n 0)) (leb (getD levels m 0) (getD levels n 0)) false)
+    false
 
 -- the first `count` places of the row of n are those of `row`, and the other rows are as they were
 pub record Rowed (old new : List ℕ) (n : ℕ) (row : ℕ → Bool) (count : ℕ) : Type 0 where

@@ -16,7 +16,7 @@ ghost use Rattle.model.specs.Plan.{calls, site-steps, no-steps};
 ghost use Rattle.model.specs.PlanValue.{records-of};
 ghost use Rattle.graph.specs.Tables.{on, Tells};
 ghost use Rattle.graph.specs.Steps.{Is};
-ghost use Rattle.cycles.specs.Within.{within-nodes, Rowed};
+ghost use Rattle.cycles.specs.Within.{within-nodes, steps-in, Rowed};
 
 // Adds the pair of two numbers, where both are nodes.
 fn mark(cells: &mut [u8], from: u8, to: u8)
@@ -51,37 +51,39 @@ fn call_table(plan: Plan) -> Table
 }
 
 // Whether a path may step from n to m: they stand at one site, and m's level is no higher.
-fn steps_down(plan: Plan, n: usize, m: usize) -> bool
-    requires { ⌜ (n < nodes) × (m < nodes) ⌝ }
-    ensures { λ r. ⌜ r ≡ site-steps (records-of plan) n m ⌝ }
+fn steps_down<'a>(places: &'a [u8], levels: &'a [u8], n: usize, m: usize) -> bool
+    requires { ⌜ (length (now places) ≡ nodes) × (length (now levels) ≡ nodes) × (n < nodes) × (m < nodes) ⌝ }
+    ensures { λ r. ⌜ r ≡ steps-in (now (places .entry)) (now (levels .entry)) n m ⌝ }
 {
-    let at = plan.places[n];
+    let at = places[n];
     if Site::COUNT <= at as usize {
         return false;
     }
-    if plan.places[m] != at {
+    if places[m] != at {
         return false;
     }
-    plan.levels[m] <= plan.levels[n]
+    levels[m] <= levels[n]
 }
 
 // Writes the row of n: the nodes to which a path may step from it.
-fn step_row(cells: &mut [u8], plan: Plan, n: usize)
-    requires { ⌜ (length (now cells) ≡ nodes * nodes) × (n < nodes) ⌝ }
-    ensures { λ _. ⌜ Rowed (now (cells .entry)) (now (cells .exit)) n (site-steps (records-of plan) n) nodes ⌝ }
+fn step_row<'a>(cells: &mut [u8], places: &'a [u8], levels: &'a [u8], n: usize)
+    requires { ⌜ (length (now cells) ≡ nodes * nodes) × (length (now places) ≡ nodes) × (length (now levels) ≡ nodes) × (n < nodes) ⌝ }
+    ensures { λ _. ⌜ Rowed (now (cells .entry)) (now (cells .exit)) n (steps-in (now (places .entry)) (now (levels .entry)) n) nodes ⌝ }
 {
     for m in 0..Node::COUNT {
-        cells[Node::COUNT * n + m] = steps_down(plan, n, m) as u8;
+        cells[Node::COUNT * n + m] = steps_down(places, levels, n, m) as u8;
     }
 }
 
-// The steps within a site.
+// The steps within a site. The two arrays are lent to each row, so that the plan is not copied for each pair.
 fn step_table(plan: Plan) -> Table
     ensures { λ r. ⌜ Is (r .cells) (site-steps (records-of plan)) ⌝ }
 {
+    let places = plan.places;
+    let levels = plan.levels;
     let mut cells = graph::empty().cells;
     for n in 0..Node::COUNT {
-        step_row(&mut cells, plan, n);
+        step_row(&mut cells, &places, &levels, n);
     }
     Table { cells }
 }

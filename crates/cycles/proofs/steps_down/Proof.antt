@@ -1,55 +1,47 @@
--- `cycles::steps_down` meets its contract: a node without a record, a node elsewhere, and the levels at one site.
--- Assumes nothing.
-use mathlib.Core.Path.{sym}
+-- `cycles::steps_down` meets its contract: the tests on the way are those of the definition. Assumes nothing.
 use native.Mathlib.Omega.{arith}
+use borrow.Author.Tests.{lt-ltb, le-ltb, eq-eqb, ne-eqb}
+use Rattle.cycles.specs.Within.{steps-in}
 use borrow.Author.Needs.{needs}
-use Rattle.model.proofs.PlanValueLaws.{Sized}
-use Rattle.cycles.proofs.TableLaws.{step-nowhere, step-elsewhere, step-level}
 use Rattle.cycles.proofs.steps_down.Statement.{statement}
 use Rattle.cycles.proofs.steps_down.Tie as tie
 
-element-copy-out-at : tie.Need-element-copy-out-at
-element-copy-out-at c = search needs
+shared-slice-read-at : tie.Need-shared-slice-read-at
+shared-slice-read-at c = search needs
 
 cast-if1 : tie.Need-cast-if1
-cast-if1 c = search needs
+cast-if1 c = omega (arith, c .shared-slice-known .given (c .before .args .n))
 
 returns : tie.Need-returns
-returns c =
-    let a = c .before .before .args in
-    let sized : Sized (a .t1) = search needs in
-    sym (step-nowhere (a .t1) sized (a .n) (a .m) (omega arith) (omega arith))
+unfolding steps-in
+returns c = simp (le-ltb _ _ (c .if1 .taken))
 
-element-copy-out-if2 : tie.Need-element-copy-out-if2
-element-copy-out-if2 c = search needs
+shared-slice-read-if2 : tie.Need-shared-slice-read-if2
+shared-slice-read-if2 c = search needs
 
 returns-2 : tie.Need-returns-2
-returns-2 c =
-    let a = c .before .before .before .before .args in
-    let sized : Sized (a .t1) = search needs in
-    sym (step-elsewhere (a .t1) sized (a .n) (a .m) (omega arith) (omega arith) (omega arith) (c .if2 .taken))
+unfolding steps-in
+returns-2 c = simp (lt-ltb _ _ (c .before .before .if1 .left), ne-eqb _ _ (c .if2 .taken))
 
-element-copy-out-result : tie.Need-element-copy-out-result
-element-copy-out-result c = search needs
+shared-slice-read-result : tie.Need-shared-slice-read-result
+shared-slice-read-result c = search needs
 
-element-copy-out-result-2 : tie.Need-element-copy-out-result-2
-element-copy-out-result-2 c = search needs
+shared-slice-read-result-2 : tie.Need-shared-slice-read-result-2
+shared-slice-read-result-2 c = search needs
 
 returns-3 : tie.Need-returns-3
-returns-3 c =
-    let a = c .before .before .before .before .before .before .args in
-    let sized : Sized (a .t1) = search needs in
-    sym (step-level (a .t1) sized (a .n) (a .m) (omega arith) (omega arith) (omega arith) (omega arith))
+unfolding steps-in
+returns-3 c = simp (lt-ltb _ _ (c .before .before .before .before .if1 .left), eq-eqb _ _ (c .before .before .if2 .left))
 
 pub steps-down-spec : {M : Type 1} → statement M
 steps-down-spec =
     tie.close
     (tie.spec
-    element-copy-out-at
+    shared-slice-read-at
     cast-if1
     returns
-    element-copy-out-if2
+    shared-slice-read-if2
     returns-2
-    element-copy-out-result
-    element-copy-out-result-2
+    shared-slice-read-result
+    shared-slice-read-result-2
     returns-3)
