@@ -7,9 +7,7 @@ use model::Plan;
 use model::PlanRead;
 use model::PlanRefusal;
 use model::ReadAnswer;
-ghost use mathlib.Core.Path.{_≡_};
 ghost use Prim.Native.Nat.{_<_};
-ghost use lib.ListN.{length};
 
 // The records of the largest plan, and behind them the longest record: so that whatever stands there is seen whole.
 const MOST_BYTES: usize = 3 * Site::COUNT + 4 * Node::COUNT + 3 * Node::EDGES + 4;

@@ -437,20 +437,9 @@ module _ (rs : List Record) (p : passes six rs ≡ true) where
   pub place-value : (n : ℕ) → held (value rs) n ≡ place rs n
   place-value n = sym (place-of (value rs) (value-sized rs) n) ∙ ap (λ (qs : List Record). place qs n) (records-value rs p)
 
-  -- a node has a record where its site is below 16, and then the arrays have its site and its level
+  -- a node has a record where its site is below 16
   pub present-value : (n : ℕ) → present (place rs n) ≡ ltb (getD (value rs .places) n nowhere) sites
   present-value n = ap present (sym (place-value n)) ∙ present-held (value rs) n
-
-  pub at-value : (n : ℕ) (q : Place) → place rs n ≡ some q → (getD (value rs .places) n nowhere ≡ q .at) × (getD (value rs .levels) n 0 ≡ q .level)
-  unfolding held
-  at-value n q e = go (ltb (getD (value rs .places) n nowhere) sites) (place-value n ∙ e)
-    where
-      found : Place
-      found = record { at = getD (value rs .places) n nowhere; level = getD (value rs .levels) n 0 }
-
-      go : (b : Bool) → cond b (some found) none ≡ some q → (found .at ≡ q .at) × (found .level ≡ q .level)
-      go true h = let one : found ≡ q = cc in (ap (λ (x : Place). x .at) one, ap (λ (x : Place). x .level) one)
-      go false h = let z : _≡_ {A = ℕ} 0 1 = cc in absurd (omega arith)
 
 -- Answers
 

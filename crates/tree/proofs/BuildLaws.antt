@@ -95,9 +95,6 @@ module _ (T : ℕ) (a : List ℕ) (ok : Accepted T a) where
 
   -- One height more
   module _ (sizes slacks : List ℕ) (first last : ℕ) (g : Grown T a sizes slacks first last) (more : 1 < first) where
-    H : ℕ
-    H = g .height
-
     P : ℕ
     P = 2 ^ g .height
 
