@@ -209,7 +209,8 @@ pub fn check(plan: Plan, last: PlanRecord, next: PlanRecord) -> Checked
     }
 }
 
-// The plan with one record more, which has passed the checks.
+// The plan with one record more. An inner function: `plan` and `audit` call it, each once the record has passed `check`, and nobody else does. So
+// it asks for that and does not look again.
 pub fn store(plan: Plan, next: PlanRecord) -> Plan
     requires { ⌜ Storable plan next ⌝ }
     ensures { λ r. ⌜ r ≡ stored-in plan next ⌝ }

@@ -108,7 +108,8 @@ fn walk(sizes: &[u8], slacks: &[u8], height: u8, n: usize, carried: usize) -> Wa
     }
 }
 
-// The walk from the root of a sound site's tree: where it ends is the highest admissible level plus 1.
+// The walk from the root of a sound site's tree: where it ends is the highest admissible level plus 1. An inner function: `book` alone calls it,
+// once the site has been found sound. So it asks for that and does not look again.
 pub fn descend(threads: u8, counts: &[u8]) -> Walked
     requires { ⌜ refused threads (now counts) ≡ false ⌝ }
     ensures { λ r. ⌜ r ≡ from-root threads (now (counts .entry)) ⌝ }
