@@ -7,8 +7,9 @@ use mathlib.Core.Logic.{⊎-elim, _↔_}
 use mathlib.Core.Bool.{true, false}
 use mathlib.Core.List.{List}
 use lib.ListN.{length, getD}
+use lib.Dec.{ltb}
 use borrow.Author.Tests.{lt-ltb, le-ltb, ltb-true}
-use Rattle.lists.proofs.CountLaws.{lt-or-ge, never-both, first-le}
+use Rattle.lists.proofs.CountLaws.{lt-or-ge, and-left, and-right, and-both, same-test, never-both, first-le}
 use Rattle.model.specs.Site.{A, lawful, raised, may-admit, full, limit}
 use Rattle.model.specs.Paper.{φ, In-use}
 use Rattle.model.specs.Rule.{LIVE-P}
@@ -79,9 +80,30 @@ highest-largest T a level long law e = (
 pub highest-none : (T : ℕ) (a : List ℕ) → T ≤ length a → lawful T a ≡ true → limit T a ≡ 0 → (i : ℕ) → may-admit T a i ≡ false
 highest-none T a long law e i = admits-below T a i long law ∙ le-ltb i (limit T a) (omega arith)
 
+-- equal counts at every level have equal sums, however the lists are written
+same-sums : (a b : List ℕ) → ((k : ℕ) → getD a k 0 ≡ getD b k 0) → (n k : ℕ) → length a ≤ k + n → length b ≤ k + n → A a k ≡ A b k
+same-sums a b same zero k end-a end-b = A-end a k (omega arith) ∙ sym (A-end b k (omega arith))
+same-sums a b same (suc n) k end-a end-b =
+    omega (arith, A-step a k, A-step b k, same k, same-sums a b same n (suc k) (omega arith) (omega arith))
+
 -- "Admission depends on T, i and that site's active counts and on nothing else"
-pub admission-alone : (T U : ℕ) (a b : List ℕ) (i j : ℕ) → T ≡ U → a ≡ b → i ≡ j → may-admit T a i ≡ may-admit U b j
-admission-alone T U a b i j p q r = cc
+pub admission-alone : (T : ℕ) (a b : List ℕ) (i : ℕ) → T ≤ length a → T ≤ length b → ((k : ℕ) → getD a k 0 ≡ getD b k 0)
+    → may-admit T a i ≡ may-admit T b i
+unfolding may-admit
+admission-alone T a b i long-a long-b same =
+    same-test (may-admit T a i) (may-admit T b i) (carried a b long-a long-b same) (carried b a long-b long-a (λ k. sym (same k)))
+  where
+    carried : (c d : List ℕ) → T ≤ length c → T ≤ length d → ((k : ℕ) → getD c k 0 ≡ getD d k 0) → may-admit T c i ≡ true → may-admit T d i ≡ true
+    carried c d long-c long-d equal e =
+        let below = ltb-true i T (and-left (ltb i T) (lawful T (raised c i)) e) in
+        let law = and-right (ltb i T) (lawful T (raised c i)) e in
+        and-both (ltb i T) (lawful T (raised d i)) (lt-ltb i T below)
+        (lawful-all T (raised d i) (λ k h.
+        let sums = same-sums c d equal (length c + length d) k (omega arith) (omega arith) in
+        ⊎-elim
+        (λ (p : i < k). omega (arith, lawful-at T (raised c i) law k h, A-kept c i k p, A-kept d i k p, sums))
+        (λ (p : k ≤ i). omega (arith, lawful-at T (raised c i) law k h, A-raised c i k (omega arith) p, A-raised d i k (omega arith) p, sums))
+        (lt-or-ge i k)))
 
 -- where calls stand at or above k, the lowest of their levels has the same sum
 next-active : (a : List ℕ) (n k : ℕ) → length a ≤ k + n → 1 ≤ A a k → (j : ℕ) × (k ≤ j) × (1 ≤ getD a j 0) × (A a j ≡ A a k)
