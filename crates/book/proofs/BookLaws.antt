@@ -10,7 +10,7 @@ use mathlib.Core.List.{List, [], _∷_}
 use lib.Dec.{ltb}
 use Rattle.model.specs.Site.{refused, limit, may-admit, room}
 use Rattle.model.specs.Tree.{from-root}
-use Rattle.model.specs.Answers.{refusal, level-answer, admission-answer, room-answer, firmware}
+use Rattle.model.specs.Answers.{site-refusal, level-refusal, level-answer, admission-answer, room-answer, firmware}
 use Rattle.model.specs.declared.Walked.{Walked}
 use Rattle.model.proofs.SiteLaws.{accepted}
 use Rattle.model.proofs.TreeLaws.{from-root-is}
@@ -26,15 +26,15 @@ when-sound b r e n = not-true r (granted b (not r) e n)
 module _ (T : ℕ) (a : List ℕ) where
   -- A refused site
   module _ (e : refused T a ≡ true) where
-    pub level-refused : refusal ≡ level-answer T a
+    pub level-refused : site-refusal ≡ level-answer T a
     unfolding level-answer
     level-refused = rw e
 
-    pub admission-refused : (i : ℕ) → refusal ≡ admission-answer T a i
+    pub admission-refused : (i : ℕ) → site-refusal ≡ admission-answer T a i
     unfolding admission-answer
     admission-refused i = rw e
 
-    pub room-refused : (k : ℕ) → refusal ≡ room-answer T a k
+    pub room-refused : (k : ℕ) → site-refusal ≡ room-answer T a k
     unfolding room-answer
     room-refused k = rw e
 
@@ -45,11 +45,11 @@ module _ (T : ℕ) (a : List ℕ) where
   -- A sound site
   module _ (e : refused T a ≡ false) where
     -- a level that is not below T
-    pub admission-beyond : (i : ℕ) → T ≤ i → refusal ≡ admission-answer T a i
+    pub admission-beyond : (i : ℕ) → T ≤ i → site-refusal ≡ admission-answer T a i
     unfolding admission-answer
     admission-beyond i h = rw (e, le-leb T i h)
 
-    pub room-beyond : (k : ℕ) → T ≤ k → refusal ≡ room-answer T a k
+    pub room-beyond : (k : ℕ) → T ≤ k → level-refusal ≡ room-answer T a k
     unfolding room-answer
     room-beyond k h = rw (e, le-leb T k h)
 

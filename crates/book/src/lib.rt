@@ -109,7 +109,7 @@ pub fn room(threads: u8, counts: &[u8], wanted: Level) -> RoomAnswer
         return RoomAnswer::Refused;
     }
     if threads <= wanted.0 {
-        return RoomAnswer::Refused;
+        return RoomAnswer::NoSuchLevel;
     }
     let active = calls_from(wanted.0 as usize, counts);
     RoomAnswer::Room(((threads - wanted.0) as usize - active) as u8)
