@@ -9,7 +9,7 @@ use mathlib.Core.Bool.{true, false, not, _||_}
 use mathlib.Core.List.{List}
 use lib.ListN.{length, getD, length-set}
 use lib.Dec.{leb, ltb, eqb}
-use borrow.Author.Tests.{leb-true, le-leb, ltb-false, eqb-true, eqb-false, eq-eqb}
+use borrow.Author.Tests.{leb-true, le-leb, ltb-false, le-ltb, eqb-true, eqb-false, eq-eqb, ne-eqb}
 use Rattle.lists.proofs.CountLaws.{every-at, every-all, sum-drop-step, sum-drop-end, sum-drop-raised, sum-drop-kept, lt-or-ge, or-left, or-right, not-false-true}
 use Rattle.model.specs.Site.{A, lawful, raised, full, refused}
 use Rattle.ids.specs.Limits.{most-threads}
@@ -101,6 +101,17 @@ accepted T a e =
       within = eqb-true (A a T) 0 (not-false-true (eqb (A a T) 0) (or-right (none || many || short) over e₃));
       law = not-false-true (lawful T a) (or-right (none || many || short || over) (not (lawful T a)) e);
     }
+
+pub not-refused : (T : ℕ) (a : List ℕ) → Accepted T a → refused T a ≡ false
+unfolding refused
+not-refused T a ok =
+    simp (
+      ne-eqb T 0 (λ e. omega (arith, ok .some)),
+      le-ltb most-threads T (ok .most),
+      eq-eqb (length a) most-threads (ok .long),
+      eq-eqb (A a T) 0 (ok .within),
+      ok .law,
+    )
 
 -- no level at or above T has a call, and no level has more calls than threads
 pub level-empty : (T : ℕ) (a : List ℕ) (k : ℕ) → A a T ≡ 0 → T ≤ k → A a k ≡ 0
