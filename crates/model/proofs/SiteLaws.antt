@@ -9,8 +9,9 @@ use mathlib.Core.Bool.{true, false, not, _||_}
 use mathlib.Core.List.{List}
 use lib.ListN.{length, getD, length-set}
 use lib.Dec.{leb, ltb, eqb}
-use borrow.Author.Tests.{leb-true, le-leb, ltb-false, le-ltb, eqb-true, eqb-false, eq-eqb, ne-eqb}
+use borrow.Author.Tests.{leb-true, le-leb, lt-leb, ltb-false, le-ltb, eqb-true, eqb-false, eq-eqb, ne-eqb}
 use Rattle.lists.proofs.CountLaws.{every-at, every-all, sum-drop-step, sum-drop-end, sum-drop-raised, sum-drop-kept, lt-or-ge, or-left, or-right, not-false-true}
+use Rattle.lists.specs.Count.{one}
 use Rattle.model.specs.Site.{A, lawful, raised, full, refused}
 use Rattle.ids.specs.Limits.{most-threads}
 
@@ -35,6 +36,14 @@ A-raised a i k h l = sum-drop-raised a i k h l
 pub A-kept : (a : List ℕ) (i k : ℕ) → i < k → A (raised a i) k ≡ A a k
 unfolding A raised
 A-kept a i k l = sum-drop-kept a i k (suc (getD a i 0)) l
+
+-- the same in one: counted where the level is at most i
+pub A-one : (a : List ℕ) (i k : ℕ) → i < length a → A (raised a i) k ≡ A a k + one (leb k i)
+A-one a i k long =
+    ⊎-elim
+    (λ (p : i < k). omega (arith, A-kept a i k p, ap one (lt-leb k i p)))
+    (λ (p : k ≤ i). omega (arith, A-raised a i k long p, ap one (le-leb k i p)))
+    (lt-or-ge i k)
 
 pub raised-length : (a : List ℕ) (i : ℕ) → length (raised a i) ≡ length a
 unfolding raised
