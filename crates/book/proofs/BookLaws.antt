@@ -1,8 +1,8 @@
 -- The answers of the site book, once it is known what the walk down the tree answered: a refusal exactly where the site is refused, and else
 -- the walk ends at the limit, below which lie the levels that may be admitted. Assumes nothing.
-use Prim.Native.Nat.{ℕ, suc, _+_, _-_, _≤_, _<_}
+use Prim.Native.Nat.{ℕ, suc, _-_, _≤_, _<_}
 use native.Mathlib.Omega.{arith}
-use borrow.Author.Tests.{le-leb, lt-leb, lt-ltb, le-ltb, eq-eqb}
+use borrow.Author.Tests.{le-leb, lt-leb, eq-eqb}
 use mathlib.Core.Path.{_≡_, refl, sym, ap, ap₂, _∙_}
 use mathlib.Core.Bool.{Bool, true, false, cond}
 use mathlib.Core.List.{List, [], _∷_}

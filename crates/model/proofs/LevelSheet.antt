@@ -12,7 +12,8 @@ use Rattle.model.specs.Site.{A, lawful, raised, may-admit, full, limit, 
 use Rattle.model.specs.Answers.{firmware, admission-answer}
 use Rattle.model.specs.LevelSheet.{Case, site, call, plan, counts, Holds, table}
 use Rattle.model.specs.House.{next}
-use Rattle.model.specs.Plan.{threads, place, calls, edges, follows, in-range, known, level-below, room-for, record-fault, site-steps, listed, closed-backwards, loops, self-depends, end-fault, bytes-of}
+use Rattle.model.specs.Plan.{threads, place, calls, edges, follows, in-range, known, level-below}
+use Rattle.model.specs.Plan.{room-for, record-fault, site-steps, listed, closed-backwards, loops, self-depends, end-fault, bytes-of}
 use Rattle.model.specs.Reading.{read, read-on}
 use Rattle.model.specs.PlanValue.{reading-told}
 
@@ -56,8 +57,9 @@ all-pass [] e = tt
 all-pass (c ∷ cs) e = (passes c (and-left (test c) (tests cs) e), all-pass cs (and-right (test c) (tests cs) e))
 
 computed : tests table ≡ true
-unfolding tests test told-is firmware admission-answer may-admit refused limit lawful full A raised read read-on next threads place calls edges follows in-range known level-below room-for
-    record-fault site-steps listed closed-backwards loops self-depends end-fault bytes-of
+unfolding tests test told-is firmware admission-answer may-admit refused limit lawful full A raised read read-on next
+    threads place calls edges follows in-range known level-below room-for record-fault site-steps listed
+    closed-backwards loops self-depends end-fault bytes-of
 computed = refl
 
 pub level-sheet : All table

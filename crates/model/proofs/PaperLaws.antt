@@ -1,5 +1,5 @@
--- The paper's Lemmas 1 and 2 and Corollaries 1 and 2, that its φ over the levels in use is document 01's lawful, and that the highest
--- admissible level is the largest that may be admitted, and that 01's admission is the paper's guard φ′: from the laws of A and of the rule LIVE-P. Assumes nothing.
+-- The paper's Lemmas 1 and 2 and Corollaries 1 and 2, that its φ over the levels in use is document 01's lawful and its guard φ′ 01's admission,
+-- and that the highest admissible level is the largest that may be admitted: from the laws of A and of the rule LIVE-P. Assumes nothing.
 use Prim.Native.Nat.{ℕ, zero, suc, _+_, _-_, _≤_, _<_}
 use native.Mathlib.Omega.{arith}
 use mathlib.Core.Path.{_≡_, refl, sym, ap, subst, _∙_}

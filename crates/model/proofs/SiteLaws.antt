@@ -10,7 +10,8 @@ use mathlib.Core.List.{List}
 use lib.ListN.{length, getD, length-set}
 use lib.Dec.{leb, ltb, eqb}
 use borrow.Author.Tests.{leb-true, le-leb, lt-leb, ltb-false, le-ltb, eqb-true, eqb-false, eq-eqb, ne-eqb}
-use Rattle.lists.proofs.CountLaws.{every-at, every-all, sum-drop-step, sum-drop-end, sum-drop-raised, sum-drop-kept, lt-or-ge, or-left, or-right, not-false-true}
+use Rattle.lists.proofs.CountLaws.{every-at, every-all, lt-or-ge, or-left, or-right, not-false-true}
+use Rattle.lists.proofs.CountLaws.{sum-drop-step, sum-drop-end, sum-drop-raised, sum-drop-kept}
 use Rattle.lists.specs.Count.{one}
 use Rattle.model.specs.Site.{A, lawful, raised, full, refused}
 use Rattle.ids.specs.Limits.{most-threads}
@@ -122,10 +123,6 @@ not-refused T a ok =
       ok .law,
     )
 
--- no level at or above T has a call, and no level has more calls than threads
+-- no level at or above T has a call
 pub level-empty : (T : ℕ) (a : List ℕ) (k : ℕ) → A a T ≡ 0 → T ≤ k → A a k ≡ 0
 level-empty T a k within h = omega (arith, A-down a T k h)
-
-pub level-most : (T : ℕ) (a : List ℕ) (k : ℕ) → A a T ≡ 0 → lawful T a ≡ true → A a k ≤ T
-level-most T a k within law =
-    ⊎-elim (λ (p : k < T). omega (arith, lawful-at T a law k p)) (λ (p : T ≤ k). omega (arith, level-empty T a k within p)) (lt-or-ge k T)

@@ -17,7 +17,8 @@ use Rattle.lists.proofs.CountLaws.{lt-or-ge}
 use Rattle.model.specs.Tree.{size, root-height}
 use Rattle.tree.proofs.StoredLaws.{size-most, size-empty, stored-none, covers-right}
 use Rattle.tree.proofs.WalkLaws.{leaf-place}
-use Rattle.tree.specs.Places.{places, unlimited, no-slack, Counted, stored, first-level, Stands, Built, leaf-size, leaf-slack, pair-size, pair-slack, Joinable}
+use Rattle.tree.specs.Places.{places, unlimited, no-slack, Counted, stored, first-level, Stands, Built}
+use Rattle.tree.specs.Places.{leaf-size, leaf-slack, pair-size, pair-slack, Joinable}
 
 -- the places of a height: all lie from `first` on, and those that cover a level below T lie before `end`
 pub record Row (T first end : ℕ) : Type 0 where
@@ -236,7 +237,9 @@ module _ (T : ℕ) (a : List ℕ) (ok : Counted T a) (first end : ℕ) (row : Ro
             omega (arith, le-of-mul-le-mul-right q positive, next-end)
 
   -- Both arrays
-  module _ (sizes slacks : List ℕ) (sized : Grown (size a) 0 (row .height) first sizes) (slacked : Grown (stored T a) unlimited (row .height) first slacks) where
+  module _ (sizes slacks : List ℕ)
+      (sized : Grown (size a) 0 (row .height) first sizes)
+      (slacked : Grown (stored T a) unlimited (row .height) first slacks) where
     joined-size : (n : ℕ) → Place n → pair-size sizes n ≡ size a (suc (row .height)) (level n)
     unfolding size P
     joined-size n p = ap₂ _+_ (left-half (size a) 0 sizes sized n p) (right-half (size a) 0 sizes sized n p)

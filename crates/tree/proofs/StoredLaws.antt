@@ -113,8 +113,8 @@ module _ (T : ℕ) (a : List ℕ) (ok : Counted T a) where
         (λ s e. omega (arith, slack-most T a law h (k + 2 ^ h) s e, ok .most))
 
   -- at the root it is below 64 exactly where the site is not lawful
-  none-right : A a 64 ≡ 0
-  none-right = A-end a 64 (omega (arith, ok .long))
+  none-right : A a most-threads ≡ 0
+  none-right = A-end a most-threads (omega (arith, ok .long))
 
   pub root-lawful : no-slack ≤ stored T a root-height 0 → lawful T a ≡ true
   root-lawful h = lawful-all T a (λ j l. omega (arith, stored-high root-height 0 j zero-le (omega (arith, ok .most)) l, none-right))

@@ -1,6 +1,5 @@
 -- `tree::calls_from` meets its contract: of counts of another length there are none, and from 64 on there are none either.
 -- Assumes nothing.
-use Prim.Native.Nat.{ℕ, _+_}
 use native.Mathlib.Omega.{arith}
 use borrow.Author.Tests.{eq-eqb, ne-eqb}
 use borrow.Author.Needs.{needs}

@@ -1,6 +1,6 @@
 -- `tree::calls_in` meets its contract. The loop's invariant: the sum so far and the calls from level k on are those from the start on.
 -- Assumes nothing.
-use Prim.Native.Nat.{ℕ, _+_, _-_, _*_, _≤_}
+use Prim.Native.Nat.{_+_, _-_, _*_, _≤_}
 use native.Mathlib.Numerals.{add-one}
 use native.Mathlib.Omega.{arith}
 use mathlib.Core.Path.{_≡_, ap}

@@ -1,8 +1,7 @@
 -- `tree::descend` meets its contract: where no tree can be built the site is refused, and once it is built the root's slack says whether the
 -- site is lawful and where the walk ends. Assumes nothing.
 use native.Mathlib.Omega.{arith}
-use mathlib.Core.Path.{_≡_, refl, ap, _∙_}
-use mathlib.Core.Bool.{Bool, true}
+use mathlib.Core.Path.{refl, ap, _∙_}
 use denote.Ref.{now}
 use borrow.Author.Needs.{needs}
 use borrow.Author.Tests.{not-true}

@@ -1,6 +1,6 @@
 -- `tree::join` meets its contract. The loop's invariant: the places from `first` up to n are made from their halves, which lie at or behind n,
 -- so that no store has touched them. Assumes nothing.
-use Prim.Native.Nat.{ℕ, _+_, _-_, _*_, _≤_, _<_, min}
+use Prim.Native.Nat.{ℕ, _+_, _-_, _*_, _≤_, min}
 use native.Mathlib.Omega.{arith}
 use mathlib.Core.Path.{_≡_, refl, ap₂, _∙_}
 use mathlib.Core.List.{List}
