@@ -9,6 +9,7 @@ ghost use lib.Dec.{eqb};
 ghost use lib.ListN.{length};
 ghost use Rattle.ids.specs.Limits.{most-threads};
 ghost use Rattle.model.specs.Site.{A as above};
+ghost use Rattle.model.specs.Tree.{root-height};
 ghost use Rattle.lists.specs.Fill.{Filled};
 ghost use Rattle.tree.specs.Places.{Counted, Span, Arrays, Fresh, leaf-size, leaf-slack, Joinable, pair-size, pair-slack, Built, Walkable, walk-in};
 ghost use Rattle.tree.specs.Descent.{descent};
@@ -122,7 +123,7 @@ fn smaller(a: u8, b: u8) -> u8
 // Builds the tree in arrays that are as `descend` makes them. Places whose levels are all at or above `threads` keep size 0 and no limit.
 fn build(threads: usize, counts: &[u8], sizes: &mut [u8], slacks: &mut [u8])
     requires { ⌜ Counted threads (now counts) × Fresh (now sizes) (now slacks) ⌝ }
-    ensures { λ _. ⌜ Built 6 threads (now (counts .entry)) (now (sizes .exit)) (now (slacks .exit)) ⌝ }
+    ensures { λ _. ⌜ Built root-height threads (now (counts .entry)) (now (sizes .exit)) (now (slacks .exit)) ⌝ }
 {
     leaves(threads, counts, sizes, slacks);
     let mut first = Site::THREADS;
