@@ -18,7 +18,7 @@ abbrev pub first : ℕ → (ℕ → Bool) → ℕ
 first zero f = 0
 first (suc n) f = cond (f 0) 0 (suc (first n (λ k. f (suc k))))
 
--- 1 where a test holds, and else 0
+-- 1 for a test that is passed, else 0
 abbrev pub one : Bool → ℕ
 one true = 1
 one false = 0

@@ -38,14 +38,6 @@ pub A-kept : (a : List ℕ) (i k : ℕ) → i < k → A (raised a i) k ≡ A a k
 unfolding A raised
 A-kept a i k l = sum-drop-kept a i k (suc (getD a i 0)) l
 
--- the same in one: counted where the level is at most i
-pub A-one : (a : List ℕ) (i k : ℕ) → i < length a → A (raised a i) k ≡ A a k + one (leb k i)
-A-one a i k long =
-    ⊎-elim
-    (λ (p : i < k). omega (arith, A-kept a i k p, ap one (lt-leb k i p)))
-    (λ (p : k ≤ i). omega (arith, A-raised a i k long p, ap one (le-leb k i p)))
-    (lt-or-ge i k)
-
 pub raised-length : (a : List ℕ) (i : ℕ) → length (raised a i) ≡ length a
 unfolding raised
 raised-length a i = length-set a i (suc (getD a i 0))
@@ -126,3 +118,11 @@ not-refused T a ok =
 -- no level at or above T has a call
 pub level-empty : (T : ℕ) (a : List ℕ) (k : ℕ) → A a T ≡ 0 → T ≤ k → A a k ≡ 0
 level-empty T a k within h = omega (arith, A-down a T k h)
+
+-- one call more of level i is one more at each level up to i
+pub A-one : (a : List ℕ) (i k : ℕ) → i < length a → A (raised a i) k ≡ A a k + one (leb k i)
+A-one a i k h =
+    ⊎-elim
+    (λ (p : i < k). omega (arith, A-kept a i k p, ap one (lt-leb k i p)))
+    (λ (p : k ≤ i). omega (arith, A-raised a i k h p, ap one (le-leb k i p)))
+    (lt-or-ge i k)
