@@ -74,7 +74,7 @@ pub growing-leaves : (T : ℕ) (a : List ℕ) → Counted T a → (sizes slacks 
 unfolding size stored
 growing-leaves T a ok sizes slacks w v =
     record {
-      row = record { height = 0; rest = 6; heights = refl; first-is = refl; end-low = omega arith; end-high = omega arith };
+      row = record { height = 0; rest = root-height; heights = refl; first-is = refl; end-low = omega arith; end-high = omega arith };
       sized = leaf-grown T (ok .most) (size a) 0 (size-empty T a ok) (leaf-size a) sizes (λ n l u. refl) w;
       slacked =
           leaf-grown T (ok .most) (stored T a) unlimited (stored-none T a ok) (leaf-slack T a) slacks

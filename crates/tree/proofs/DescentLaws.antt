@@ -17,12 +17,12 @@ use Rattle.model.proofs.SiteLaws.{Accepted, accepted, not-refused, lawful-at}
 use Rattle.model.specs.declared.Walked.{Walked}
 use Rattle.tree.specs.declared.Descent.{Descent}
 use Rattle.tree.specs.Descent.{descent}
-use Rattle.tree.specs.Places.{places, no-slack, Counted, stored, first-level, Built, walk-in}
+use Rattle.tree.specs.Places.{places, unlimited, no-slack, Counted, stored, first-level, Built, walk-in}
 use Rattle.tree.proofs.StoredLaws.{coded, size-most, stored-slack, root-lawful, root-unlawful}
 
 -- no number that the walk compares with is stored as no limit
-coded-is : (s : Slack) (x : ℕ) → x < 191 → eqb (coded s) (no-slack + x) ≡ is s x
-coded-is no-limit x h = ne-eqb 255 (no-slack + x) (λ e. omega arith)
+coded-is : (s : Slack) (x : ℕ) → no-slack + x < unlimited → eqb (coded s) (no-slack + x) ≡ is s x
+coded-is no-limit x h = ne-eqb unlimited (no-slack + x) (λ e. omega arith)
 coded-is (up-to s) x h =
     same-test (eqb (no-slack + s) (no-slack + x)) (eqb s x)
     (λ e. eq-eqb s x (omega (arith, eqb-true (no-slack + s) (no-slack + x) e)))
@@ -57,7 +57,7 @@ module _ (T : ℕ) (a : List ℕ) (ok : Counted T a) (sizes slacks : List ℕ) (
     admitted : refused T a ≡ false
     admitted = not-refused T a (record { some = ok .some; most = ok .most; long = ok .long; within = ok .within; law = law })
 
-    walks-tree : (h n carried : ℕ) → h ≤ root-height → most-threads ≤ n * 2 ^ h → (n + 1) * 2 ^ h ≤ places → size a h (first-level h n) + carried < 191
+    walks-tree : (h n carried : ℕ) → h ≤ root-height → most-threads ≤ n * 2 ^ h → (n + 1) * 2 ^ h ≤ places → no-slack + (size a h (first-level h n) + carried) < unlimited
         → walk-in sizes slacks h n carried ≡ walk T a h (first-level h n) carried
     unfolding walk size
     walks-tree zero n carried most low high small =

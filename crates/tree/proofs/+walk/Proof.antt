@@ -40,8 +40,8 @@ module _ (t : ℕ) where
 
   -- above the leaves
   halved : (c : walk-lts.Else1 (walk-below t, walk.Post) (walk-at t) walk.Post)
-      → let s = c .before .before .before in Halves (s .args .height) (s .args .n)
-  halved c = let s = c .before .before .before in halves (s .args .height) (s .args .n) (c .if1 .left) (s .pre .1 .from) (s .pre .1 .to)
+      → Halves (start-of c .args .height) (start-of c .args .n)
+  halved c = let s = start-of c in halves (s .args .height) (s .args .n) (c .if1 .left) (s .pre .1 .from) (s .pre .1 .to)
 
   -- the right half's size is a byte
   right-small : (c : walk-lts.After-shared-slice-known3 (walk-below t, walk.Post) (walk-at t) walk.Post)

@@ -4,6 +4,7 @@ use native.Mathlib.Omega.{arith}
 use borrow.Author.Tests.{eq-eqb, ne-eqb}
 use borrow.Author.Needs.{needs}
 use denote.Ref.{now}
+use Rattle.ids.specs.Limits.{most-threads}
 use Rattle.model.proofs.SiteLaws.{A-end}
 use Rattle.tree.proofs.calls_from.Statement.{statement}
 use Rattle.tree.proofs.calls_from.Tie as tie
@@ -19,7 +20,7 @@ returns-2 c =
 returns-3 : tie.Need-returns-3
 returns-3 c =
     let start = c .before .before .before .before in
-    simp (eq-eqb _ _ (c .before .before .if1 .left)) (omega (arith, A-end (now (start .args .counts)) 64 (omega arith)))
+    simp (eq-eqb _ _ (c .before .before .if1 .left)) (omega (arith, A-end (now (start .args .counts)) most-threads (omega arith)))
 
 pub calls-from-spec : {M : Type 1} → statement M
 calls-from-spec = tie.close (tie.spec returns returns-2 (λ c κs. search needs) returns-3)
