@@ -27,7 +27,7 @@ extern "C" {
 /* The answer where the site is refused. */
 #define ADMISSION_REFUSED 255
 
-/* threads  the threads of the site
+/* threads  the threads of the site, a word: a count that does not fit a byte is refused too, and is not cut to one that fits
  * counts   counts[k] is the number of active calls of level k; it points at len bytes and is never null
  * len      the number of counts
  *
@@ -43,7 +43,7 @@ extern "C" {
  * Keeps no state and allocates nothing. Writes nothing but its own stack. The length is tested before any count is read: when it is not 64,
  * nothing is read. The counts must not change during the call.
  */
-uint8_t admission_level(uint8_t threads, const uint8_t *counts, size_t len);
+uint8_t admission_level(uint32_t threads, const uint8_t *counts, size_t len);
 
 #ifdef __cplusplus
 }

@@ -21,19 +21,19 @@ struct group {
     long compared, lawful, refused, wrong;
 };
 
-static void report(struct group *g, const char *what, uint8_t threads, const uint8_t *counts, size_t len, int got, int want)
+static void report(struct group *g, const char *what, uint32_t threads, const uint8_t *counts, size_t len, int got, int want)
 {
     g->wrong++;
     if (g->wrong > 5)
         return;
-    printf("  %s: threads %d, length %zu: %d, expected %d; counts", what, threads, len, got, want);
+    printf("  %s: threads %u, length %zu: %d, expected %d; counts", what, threads, len, got, want);
     for (size_t k = 0; len == LEVELS && k < len; k++)
         printf(" %d", counts[k]);
     printf("\n");
 }
 
 /* Asks once. The answer must be the one given, and the counts must be left alone. */
-static void expect(struct group *g, uint8_t threads, const uint8_t *counts, size_t len, uint8_t want)
+static void expect(struct group *g, uint32_t threads, const uint8_t *counts, size_t len, uint8_t want)
 {
     uint8_t before[LEVELS];
     if (len == LEVELS)
@@ -50,7 +50,7 @@ static void expect(struct group *g, uint8_t threads, const uint8_t *counts, size
         report(g, "counts changed", threads, counts, len, got, want);
 }
 
-static void compare(struct group *g, uint8_t threads, const uint8_t *counts, size_t len)
+static void compare(struct group *g, uint32_t threads, const uint8_t *counts, size_t len)
 {
     expect(g, threads, counts, len, plain_level(threads, counts, len));
 }
@@ -92,7 +92,7 @@ static uint8_t defined_level(unsigned threads, const uint8_t *counts)
 }
 
 /* Compares with the definition; the scan must agree with it as well. */
-static void compare_defined(struct group *g, uint8_t threads, const uint8_t *counts)
+static void compare_defined(struct group *g, uint32_t threads, const uint8_t *counts)
 {
     uint8_t want = defined_level(threads, counts);
     expect(g, threads, counts, LEVELS, want);
@@ -163,7 +163,7 @@ static void small_sites(struct group *g)
         uint8_t counts[LEVELS] = {0};
         long before = g->lawful;
         do
-            compare_defined(g, (uint8_t)threads, counts);
+            compare_defined(g, threads, counts);
         while (next_state(counts, threads));
         if (g->lawful - before != known[threads]) {
             printf("  threads %u: %ld lawful states, expected %ld\n", threads, g->lawful - before, known[threads]);
@@ -213,17 +213,25 @@ static void random_sites(struct group *g, long states)
     }
 }
 
-/* Threads 0 to 255 with no active call, and with one call of level 0. */
+/* No active call, and one call of level 0, at a site of so many threads. */
+static void so_many_threads(struct group *g, uint32_t threads)
+{
+    bool in_range = 1 <= threads && threads <= LEVELS;
+    uint8_t counts[LEVELS] = {0};
+    expect(g, threads, counts, LEVELS, in_range ? (uint8_t)threads : ADMISSION_REFUSED);
+    counts[0] = 1;
+    uint8_t left = threads == 1 ? ADMISSION_NONE : (uint8_t)threads;
+    expect(g, threads, counts, LEVELS, in_range ? left : ADMISSION_REFUSED);
+}
+
+/* Threads 0 to 600, so that each byte is seen with something above it, and counts whose low byte or low half is a good one. */
 static void threads_out_of_range(struct group *g)
 {
-    for (unsigned threads = 0; threads <= 255; threads++) {
-        bool in_range = 1 <= threads && threads <= 64;
-        uint8_t counts[LEVELS] = {0};
-        expect(g, (uint8_t)threads, counts, LEVELS, in_range ? (uint8_t)threads : ADMISSION_REFUSED);
-        counts[0] = 1;
-        uint8_t left = threads == 1 ? ADMISSION_NONE : (uint8_t)threads;
-        expect(g, (uint8_t)threads, counts, LEVELS, in_range ? left : ADMISSION_REFUSED);
-    }
+    static const uint32_t far[] = {64, 65, 255, 256, 320, 0x10001, 0x10040, 0x1000040, 0x80000040, UINT32_MAX - 191, UINT32_MAX};
+    for (uint32_t threads = 0; threads <= 600; threads++)
+        so_many_threads(g, threads);
+    for (size_t n = 0; n < sizeof far / sizeof far[0]; n++)
+        so_many_threads(g, far[n]);
 }
 
 /* One call at a level at or above the threads, for all threads and levels; and 256 of them, which a sum of one byte would lose. */
@@ -232,26 +240,26 @@ static void calls_too_high(struct group *g)
     for (unsigned threads = 1; threads < LEVELS; threads++)
         for (unsigned level = threads; level < LEVELS; level++) {
             uint8_t counts[LEVELS] = {0};
-            expect(g, (uint8_t)threads, counts, LEVELS, (uint8_t)threads);
+            expect(g, threads, counts, LEVELS, (uint8_t)threads);
             counts[level] = 1;
-            expect(g, (uint8_t)threads, counts, LEVELS, ADMISSION_REFUSED);
+            expect(g, threads, counts, LEVELS, ADMISSION_REFUSED);
             counts[level] = 128;
             counts[level + 1 < LEVELS ? level + 1 : threads] = 128;
-            expect(g, (uint8_t)threads, counts, LEVELS, ADMISSION_REFUSED);
+            expect(g, threads, counts, LEVELS, ADMISSION_REFUSED);
         }
 }
 
 /* A site that is full at level k, with one call too many there: unlawful at k and at no other level. */
 static void one_too_many(struct group *g, unsigned threads, unsigned k, uint8_t *counts)
 {
-    expect(g, (uint8_t)threads, counts, LEVELS, (uint8_t)k);
+    expect(g, threads, counts, LEVELS, (uint8_t)k);
     counts[k]++;
     for (unsigned j = 0; j < threads; j++)
         if ((calls_at_or_above(counts, j) > threads - j) != (j == k)) {
             printf("  threads %u, level %u: the case is not as meant\n", threads, k);
             g->wrong++;
         }
-    expect(g, (uint8_t)threads, counts, LEVELS, ADMISSION_REFUSED);
+    expect(g, threads, counts, LEVELS, ADMISSION_REFUSED);
 }
 
 /* For all threads and levels: all calls at level k, and the calls spread over the levels from k on. */
@@ -276,9 +284,9 @@ static void large_sums(struct group *g)
         for (unsigned k = 1; k < threads; k++) {
             uint8_t counts[LEVELS] = {0};
             counts[k] = 1;
-            compare(g, (uint8_t)threads, counts, LEVELS);
+            compare(g, threads, counts, LEVELS);
             counts[k - 1] = 255;
-            expect(g, (uint8_t)threads, counts, LEVELS, ADMISSION_REFUSED);
+            expect(g, threads, counts, LEVELS, ADMISSION_REFUSED);
         }
     uint8_t counts[LEVELS];
     memset(counts, 255, LEVELS);
@@ -294,7 +302,7 @@ static void lengths(struct group *g)
             abort();
         for (unsigned threads = 0; threads <= 66; threads++) {
             bool good = len == 64 && 1 <= threads && threads <= 64;
-            expect(g, (uint8_t)threads, counts, len, good ? (uint8_t)threads : ADMISSION_REFUSED);
+            expect(g, threads, counts, len, good ? (uint8_t)threads : ADMISSION_REFUSED);
         }
         free(counts);
     }
@@ -313,13 +321,13 @@ static void guarded(struct group *g)
     if (mprotect(pages + page, page, PROT_READ) != 0)
         abort();
     for (unsigned threads = 0; threads <= 255; threads++) {
-        compare(g, (uint8_t)threads, first, LEVELS);
-        compare(g, (uint8_t)threads, last, LEVELS);
+        compare(g, threads, first, LEVELS);
+        compare(g, threads, last, LEVELS);
         for (size_t len = 0; len <= 1024; len++)
             if (len != LEVELS)
-                expect(g, (uint8_t)threads, pages + 2 * page, len, ADMISSION_REFUSED);
-        expect(g, (uint8_t)threads, pages, SIZE_MAX, ADMISSION_REFUSED);
-        expect(g, (uint8_t)threads, pages, (size_t)1 << 32 | LEVELS, ADMISSION_REFUSED);
+                expect(g, threads, pages + 2 * page, len, ADMISSION_REFUSED);
+        expect(g, threads, pages, SIZE_MAX, ADMISSION_REFUSED);
+        expect(g, threads, pages, (size_t)1 << 32 | LEVELS, ADMISSION_REFUSED);
     }
     munmap(pages, 3 * page);
 }

@@ -2,7 +2,7 @@
 
 #include <string.h>
 
-uint8_t plain_level(uint8_t threads, const uint8_t *counts, size_t len)
+uint8_t plain_level(uint32_t threads, const uint8_t *counts, size_t len)
 {
     if (threads == 0 || threads > ADMISSION_LEVELS || len != ADMISSION_LEVELS)
         return ADMISSION_REFUSED;
@@ -15,10 +15,9 @@ uint8_t plain_level(uint8_t threads, const uint8_t *counts, size_t len)
     while (k > 0) {
         k--;
         sum += counts[k];
-        size_t most = threads - k;
-        if (sum > most)
+        if (sum + k > threads)
             return ADMISSION_REFUSED;
-        if (sum == most)
+        if (sum + k == threads)
             answer = k;
     }
     return (uint8_t)answer;

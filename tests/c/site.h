@@ -9,7 +9,7 @@
 #include "admission.h"
 
 /* The same question as admission_level, and the same answers. */
-uint8_t plain_level(uint8_t threads, const uint8_t *counts, size_t len);
+uint8_t plain_level(uint32_t threads, const uint8_t *counts, size_t len);
 
 /* Random numbers, the same ones from the same seed. */
 void random_from(uint64_t seed);

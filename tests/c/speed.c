@@ -15,7 +15,7 @@
 
 enum { SITES = 4000, ROUNDS = 25, REPEATS = 10 };
 
-typedef uint8_t level_answer(uint8_t threads, const uint8_t *counts, size_t len);
+typedef uint8_t level_answer(uint32_t threads, const uint8_t *counts, size_t len);
 
 static struct site sites[SITES];
 

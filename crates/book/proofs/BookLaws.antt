@@ -1,81 +1,105 @@
--- The answers of the site book, once it is known whether the site is refused and where the walk from the root ended: that is the limit, and a
--- level may be admitted exactly when it lies below the limit. Assumes nothing.
-use Prim.Native.Nat.{ℕ, _≤_, _<_}
+-- The answers of the site book, once it is known what the walk down the tree answered: a refusal exactly where the site is refused, and else
+-- the walk ends at the limit, below which lie the levels that may be admitted. Assumes nothing.
+use Prim.Native.Nat.{ℕ, suc, _-_, _≤_, _<_}
 use native.Mathlib.Omega.{arith}
-use borrow.Author.Tests.{le-leb, lt-leb, not-true}
-use Rattle.lists.proofs.CountLaws.{denied, granted, not-false-true}
-use mathlib.Core.Path.{_≡_, sym, ap, ap₂, _∙_}
-use mathlib.Core.Bool.{Bool, true, false, not, cond}
+use borrow.Author.Tests.{le-leb, lt-leb, eq-eqb}
+use mathlib.Core.Path.{_≡_, refl, sym, ap, ap₂, _∙_}
+use mathlib.Core.Bool.{Bool, true, false, cond}
 use mathlib.Core.List.{List, [], _∷_}
-use lib.Dec.{ltb}
-use Rattle.model.specs.Site.{refused, limit, may-admit, room}
+use lib.Dec.{ltb, eqb}
+use lib.ListN.{length}
+use Rattle.ids.specs.Limits.{most-threads}
+use Rattle.model.specs.Site.{A, refused, limit, may-admit, room}
 use Rattle.model.specs.Tree.{from-root}
-use Rattle.model.specs.Answers.{refusal, level-answer, admission-answer, room-answer, firmware}
+use Rattle.model.specs.Answers.{site-refusal, level-refusal, level-answer, admission-answer, room-answer, firmware}
 use Rattle.model.specs.declared.Walked.{Walked}
-use Rattle.model.proofs.SiteLaws.{accepted}
+use Rattle.model.proofs.SiteLaws.{Accepted, accepted, lawful-at}
 use Rattle.model.proofs.TreeLaws.{from-root-is}
 use Rattle.model.proofs.RuleLaws.{admits-below}
+use Rattle.tree.specs.Descent.{descent}
+use Rattle.tree.specs.declared.Descent.{Descent}
 
--- What the test of the site says
-pub when-unsound : (b r : Bool) → b ≡ not r → not b ≡ true → r ≡ true
-when-unsound b r e n = not-false-true r (denied b (not r) e n)
+-- what an answer of the walk says of the test that it was picked by
+picked-refused : (b : Bool) (w : Walked) → Descent.Refused ≡ cond b Descent.Refused (Descent.Ended w) → b ≡ true
+picked-refused true w e = refl
+picked-refused false w e = let z : _≡_ {A = ℕ} 0 1 = cc in absurd (omega arith)
 
-pub when-sound : (b r : Bool) → b ≡ not r → not b ≡ false → r ≡ false
-when-sound b r e n = not-true r (granted b (not r) e n)
+picked-ended : (b : Bool) (v w : Walked) → Descent.Ended v ≡ cond b Descent.Refused (Descent.Ended w) → (b ≡ false) × (v ≡ w)
+picked-ended true v w e = let z : _≡_ {A = ℕ} 0 1 = cc in absurd (omega arith)
+picked-ended false v w e = (refl, cc)
 
 module _ (T : ℕ) (a : List ℕ) where
-  -- A refused site
-  module _ (e : refused T a ≡ true) where
-    pub level-refused : refusal ≡ level-answer T a
+  -- the walk was refused
+  module _ (e : Descent.Refused ≡ descent T a) where
+    site-refused : refused T a ≡ true
+    unfolding descent
+    site-refused = picked-refused (refused T a) (from-root T a) e
+
+    pub level-refused : site-refusal ≡ level-answer T a
     unfolding level-answer
-    level-refused = rw e
+    level-refused = rw site-refused
 
-    pub admission-refused : (i : ℕ) → refusal ≡ admission-answer T a i
+    pub admission-refused : (i : ℕ) → site-refusal ≡ admission-answer T a i
     unfolding admission-answer
-    admission-refused i = rw e
+    admission-refused i = rw site-refused
 
-    pub room-refused : (k : ℕ) → refusal ≡ room-answer T a k
+    pub room-refused : (k : ℕ) → site-refusal ≡ room-answer T a k
     unfolding room-answer
-    room-refused k = rw e
+    room-refused k = rw site-refused
 
     pub firmware-refused : 255 ≡ firmware T a
     unfolding firmware
-    firmware-refused = rw e
+    firmware-refused = rw site-refused
 
-  -- A sound site
-  module _ (e : refused T a ≡ false) where
-    -- a level that is not below T
-    pub admission-beyond : (i : ℕ) → T ≤ i → refusal ≡ admission-answer T a i
+  -- the walk ended
+  module _ (w : Walked) (e : Descent.Ended w ≡ descent T a) where
+    told : (refused T a ≡ false) × (w ≡ from-root T a)
+    unfolding descent
+    told = picked-ended (refused T a) w (from-root T a) e
+
+    pub site : Accepted T a
+    site = accepted T a (told .0)
+
+    ends : w .leaf ≡ limit T a
+    ends = ap (λ (v : Walked). v .leaf) (told .1) ∙ from-root-is T a (site .law) (site .some) (site .most) (site .long) .0
+
+    pub level-walked : 0 ∷ w .leaf ∷ w .stood ∷ [] ≡ level-answer T a
+    unfolding level-answer
+    level-walked = rw (told .0) (ap₂ (λ (l s : ℕ). 0 ∷ l ∷ s ∷ []) ends (ap (λ (v : Walked). v .stood) (told .1)))
+
+    -- the highest level is one less than where the walk ended
+    pub level-highest : (w .leaf ≡ 0 → ⊥) → 0 ∷ suc (w .leaf - 1) ∷ w .stood ∷ [] ≡ level-answer T a
+    level-highest some =
+        let up : suc (w .leaf - 1) ≡ w .leaf = omega (arith, some) in ap (λ (l : ℕ). 0 ∷ l ∷ w .stood ∷ []) up ∙ level-walked
+
+    pub firmware-walked : w .leaf ≡ firmware T a
+    unfolding firmware
+    firmware-walked = rw (told .0) ends
+
+    pub admission-beyond : (i : ℕ) → T ≤ i → site-refusal ≡ admission-answer T a i
     unfolding admission-answer
-    admission-beyond i h = rw (e, le-leb T i h)
+    admission-beyond i h = rw (told .0, le-leb T i h)
 
-    pub room-beyond : (k : ℕ) → T ≤ k → refusal ≡ room-answer T a k
+    -- a level is admitted where it lies below the walk's end
+    pub admission-below : (i : ℕ) (b : Bool) → i < T → ltb i (w .leaf) ≡ b → 0 ∷ cond b 1 0 ∷ [] ≡ admission-answer T a i
+    unfolding admission-answer
+    admission-below i b h t =
+        let m : b ≡ may-admit T a i
+        = sym t ∙ ap (ltb i) ends ∙ sym (admits-below T a i (omega (arith, site .most, site .long)) (site .law)) in
+        rw (told .0, lt-leb T i h) (ap (λ (d : Bool). 0 ∷ cond d 1 0 ∷ []) m)
+
+    pub room-beyond : (k : ℕ) → T ≤ k → level-refusal ≡ room-answer T a k
     unfolding room-answer
-    room-beyond k h = rw (e, le-leb T k h)
+    room-beyond k h = rw (told .0, le-leb T k h)
 
-    pub room-below : (k : ℕ) → k < T → 0 ∷ room T a k ∷ [] ≡ room-answer T a k
-    unfolding room-answer
-    room-below k h = rw (e, lt-leb T k h)
+    -- the calls from level k on, as they are counted
+    module _ (k n : ℕ) (h : k < T) (c : n ≡ cond (eqb (length a) most-threads) (A a k) 0) where
+      counted : n ≡ A a k
+      counted = c ∙ ap (λ (b : Bool). cond b (A a k) 0) (eq-eqb (length a) most-threads (site .long))
 
-    -- with the walk from the root
-    module _ (w : Walked) (r : w ≡ from-root T a) where
-      walked : w .leaf ≡ limit T a
-      walked =
-          let ok = accepted T a e in
-          ap (λ (v : Walked). v .leaf) r ∙ from-root-is T a (ok .law) (ok .some) (ok .most) (ok .long) .0
+      pub room-fits : n ≤ T - k
+      room-fits = omega (arith, counted, lawful-at T a (site .law) k h)
 
-      pub level-walked : 0 ∷ w .leaf ∷ w .stood ∷ [] ≡ level-answer T a
-      unfolding level-answer
-      level-walked = rw e (ap₂ (λ (l s : ℕ). 0 ∷ l ∷ s ∷ []) walked (ap (λ (v : Walked). v .stood) r))
-
-      pub firmware-walked : w .leaf ≡ firmware T a
-      unfolding firmware
-      firmware-walked = rw e walked
-
-      pub admission-walked : (i : ℕ) → i < T → 0 ∷ cond (ltb i (w .leaf)) 1 0 ∷ [] ≡ admission-answer T a i
-      unfolding admission-answer
-      admission-walked i h =
-          let ok = accepted T a e in
-          let m : ltb i (w .leaf) ≡ may-admit T a i
-          = ap (ltb i) walked ∙ sym (admits-below T a i (omega (arith, ok .most, ok .long)) (ok .law)) in
-          rw (e, lt-leb T i h) (ap (λ (b : Bool). 0 ∷ cond b 1 0 ∷ []) m)
+      pub room-below : 0 ∷ (T - k - n) ∷ [] ≡ room-answer T a k
+      unfolding room-answer room
+      room-below = rw (told .0, lt-leb T k h) (ap (λ (m : ℕ). 0 ∷ (T - k - m) ∷ []) counted)

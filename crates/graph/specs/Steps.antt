@@ -1,5 +1,5 @@
 -- What the parts of the computation do to tables of bytes. Assumes nothing.
-use Prim.Native.Nat.{ℕ, zero, suc, _+_, _<_, _≤_}
+use Prim.Native.Nat.{ℕ, zero, suc, _+_, _*_, _<_, _≤_}
 use mathlib.Core.Path.{_≡_}
 use mathlib.Core.Bool.{Bool, false, _&&_, _||_}
 use mathlib.Core.List.{List, [], _∷_}
@@ -28,6 +28,13 @@ Is cells relation = (n m : ℕ) → n < nodes → m < nodes → on cells n m ≡
 -- a pair of the first relation, or one by way of k: the second relation leads to k and the third away from it
 abbrev pub by-way : (ℕ → ℕ → Bool) → (ℕ → ℕ → Bool) → (ℕ → ℕ → Bool) → ℕ → ℕ → ℕ → Bool
 by-way old to from k n m = old n m || (to n k && from k m)
+
+-- three whole tables and a node
+pub record Whole (to by from : List ℕ) (k : ℕ) : Type 0 where
+  pub to-long : length to ≡ nodes * nodes
+  pub by-long : length by ≡ nodes * nodes
+  pub from-long : length from ≡ nodes * nodes
+  pub inside : k < nodes
 
 -- a pair by way of a node below k: the first relation leads there and the second away
 unfoldable pub across : ℕ → (ℕ → ℕ → Bool) → (ℕ → ℕ → Bool) → ℕ → ℕ → Bool

@@ -9,7 +9,7 @@ ghost use lib.ListN.{length, replicate};
 ghost use Rattle.ids.specs.Limits.{nodes};
 ghost use Rattle.model.specs.Graph.{Reach, Depends, either};
 ghost use Rattle.graph.specs.Tables.{on, Tells};
-ghost use Rattle.graph.specs.Steps.{Joined, Cleaned, Is, by-way, across, MetBack};
+ghost use Rattle.graph.specs.Steps.{Joined, Cleaned, Whole, Is, by-way, across, MetBack};
 
 // A byte for each ordered pair of nodes: that of (n, m) at 64 n + m.
 pub struct Table {
@@ -28,7 +28,7 @@ fn join(to: &mut [u8], at: usize, from: &[u8], start: usize, count: usize)
 
 // Adds the pairs that lead by way of k: with `by` to it, and with `from` away from it.
 fn spread(to: &mut [u8], by: &[u8], from: &[u8], k: usize)
-    requires { ⌜ (length (now to) ≡ nodes * nodes) × (length (now by) ≡ nodes * nodes) × (length (now from) ≡ nodes * nodes) × (k < nodes) ⌝ }
+    requires { ⌜ Whole (now to) (now by) (now from) k ⌝ }
     ensures { λ _. ⌜ Is (now (to .exit)) (by-way (on (now (to .entry))) (on (now (by .entry))) (on (now (from .entry))) k) ⌝ }
 {
     for n in 0..Node::COUNT {

@@ -15,24 +15,24 @@ abbrev pub Told : Type 0
 Told = List ℕ
 
 -- refusal 4: "site above 15"
-abbrev pub toldSite : MadeSite → Told
-toldSite (MadeSite.Made s) = 0 ∷ s .0 ∷ []
-toldSite MadeSite.Refused = 4 ∷ []
+abbrev pub toldMadeSite : MadeSite → Told
+toldMadeSite (MadeSite.Made s) = 0 ∷ s .0 ∷ []
+toldMadeSite MadeSite.Refused = 4 ∷ []
 
 -- refusal 4: "node above 63"
-abbrev pub toldNode : MadeNode → Told
-toldNode (MadeNode.Made n) = 0 ∷ n .0 ∷ []
-toldNode MadeNode.Refused = 4 ∷ []
+abbrev pub toldMadeNode : MadeNode → Told
+toldMadeNode (MadeNode.Made n) = 0 ∷ n .0 ∷ []
+toldMadeNode MadeNode.Refused = 4 ∷ []
 
 -- refusal 6: a level of 64 is not below the threads of any site
-abbrev pub toldLevel : MadeLevel → Told
-toldLevel (MadeLevel.Made l) = 0 ∷ l .0 ∷ []
-toldLevel MadeLevel.Refused = 6 ∷ []
+abbrev pub toldMadeLevel : MadeLevel → Told
+toldMadeLevel (MadeLevel.Made l) = 0 ∷ l .0 ∷ []
+toldMadeLevel MadeLevel.Refused = 6 ∷ []
 
 -- refusal 20: "the new ticket is 0"
-abbrev pub toldTicket : MadeTicket → Told
-toldTicket (MadeTicket.Made t) = 0 ∷ t .0 ∷ []
-toldTicket MadeTicket.Refused = 20 ∷ []
+abbrev pub toldMadeTicket : MadeTicket → Told
+toldMadeTicket (MadeTicket.Made t) = 0 ∷ t .0 ∷ []
+toldMadeTicket MadeTicket.Refused = 20 ∷ []
 
 -- the number where it is in range, else the refusal
 abbrev pub made : Bool → ℕ → ℕ → Told

@@ -1,7 +1,7 @@
 // The four numbers that the library keeps apart: a ticket, a node number, a site number and a level. Each limit stands once, with the
 // thing that it limits. A value of these types may hold any byte or word; a constructor is an aid that refuses a number out of range.
 ghost use mathlib.Core.Path.{_≡_};
-ghost use Rattle.ids.specs.Made.{toldSite, toldNode, toldLevel, toldTicket, siteMade, nodeMade, levelMade, ticketMade};
+ghost use Rattle.ids.specs.Made.{toldMadeSite, toldMadeNode, toldMadeLevel, toldMadeTicket, siteMade, nodeMade, levelMade, ticketMade};
 
 // "Sites are numbered 0 to 15".
 pub struct Site(pub u8);
@@ -43,7 +43,7 @@ impl Site {
     pub const THREADS: usize = 64;
 
     pub fn new(number: u8) -> MadeSite
-        ensures { λ r. ⌜ toldSite r ≡ siteMade number ⌝ }
+        ensures { λ r. ⌜ toldMadeSite r ≡ siteMade number ⌝ }
     {
         if number as usize >= Site::COUNT {
             return MadeSite::Refused;
@@ -59,7 +59,7 @@ impl Node {
     pub const EDGES: usize = 256;
 
     pub fn new(number: u8) -> MadeNode
-        ensures { λ r. ⌜ toldNode r ≡ nodeMade number ⌝ }
+        ensures { λ r. ⌜ toldMadeNode r ≡ nodeMade number ⌝ }
     {
         if number as usize >= Node::COUNT {
             return MadeNode::Refused;
@@ -70,7 +70,7 @@ impl Node {
 
 impl Level {
     pub fn new(number: u8) -> MadeLevel
-        ensures { λ r. ⌜ toldLevel r ≡ levelMade number ⌝ }
+        ensures { λ r. ⌜ toldMadeLevel r ≡ levelMade number ⌝ }
     {
         if number as usize >= Site::THREADS {
             return MadeLevel::Refused;
@@ -86,7 +86,7 @@ impl Ticket {
     pub const OPEN: usize = 256;
 
     pub fn new(number: u16) -> MadeTicket
-        ensures { λ r. ⌜ toldTicket r ≡ ticketMade number ⌝ }
+        ensures { λ r. ⌜ toldMadeTicket r ≡ ticketMade number ⌝ }
     {
         if number == Ticket::NONE {
             return MadeTicket::Refused;

@@ -28,6 +28,10 @@ pub not-true-false : (b : Bool) → (b ≡ true → ⊥) → b ≡ false
 not-true-false true h = absurd (h refl)
 not-true-false false h = refl
 
+pub not-false-so : (b : Bool) → (b ≡ false → ⊥) → b ≡ true
+not-false-so true f = refl
+not-false-so false f = absurd (f refl)
+
 -- Conjunction
 pub and-left : (a b : Bool) → (a && b) ≡ true → a ≡ true
 and-left true b e = refl

@@ -36,6 +36,11 @@ admission-injective AdmissionAnswer.Refused AdmissionAnswer.Refused e = refl
 
 pub room-injective : (x y : RoomAnswer) → toldRoom x ≡ toldRoom y → x ≡ y
 room-injective (RoomAnswer.Room n) (RoomAnswer.Room m) e = let q : n ≡ m = cc in ap RoomAnswer.Room q
+room-injective (RoomAnswer.Room n) RoomAnswer.NoSuchLevel e = cc
 room-injective (RoomAnswer.Room n) RoomAnswer.Refused e = cc
+room-injective RoomAnswer.NoSuchLevel (RoomAnswer.Room m) e = cc
+room-injective RoomAnswer.NoSuchLevel RoomAnswer.NoSuchLevel e = refl
+room-injective RoomAnswer.NoSuchLevel RoomAnswer.Refused e = let z : _≡_ {A = ℕ} 30 255 = cc in absurd (omega arith)
 room-injective RoomAnswer.Refused (RoomAnswer.Room m) e = cc
+room-injective RoomAnswer.Refused RoomAnswer.NoSuchLevel e = let z : _≡_ {A = ℕ} 255 30 = cc in absurd (omega arith)
 room-injective RoomAnswer.Refused RoomAnswer.Refused e = refl

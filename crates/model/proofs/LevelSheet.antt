@@ -8,11 +8,12 @@ use lib.Dec.{eqb}
 use borrow.Author.Tests.{eqb-true}
 use Rattle.lists.proofs.CountLaws.{never-both, and-left, and-right}
 use Rattle.ids.specs.Made.{Told}
-use Rattle.model.specs.Site.{A, lawful, raised, full, limit, refused}
-use Rattle.model.specs.Answers.{firmware}
-use Rattle.model.specs.LevelSheet.{Case, site, plan, counts, Holds, table}
+use Rattle.model.specs.Site.{A, lawful, raised, may-admit, full, limit, refused}
+use Rattle.model.specs.Answers.{firmware, admission-answer}
+use Rattle.model.specs.LevelSheet.{Case, site, call, plan, counts, Holds, table}
 use Rattle.model.specs.House.{next}
-use Rattle.model.specs.Plan.{threads, place, calls, edges, follows, in-range, known, level-below, room-for, record-fault, site-steps, listed, closed-backwards, loops, self-depends, end-fault, bytes-of}
+use Rattle.model.specs.Plan.{threads, place, calls, edges, follows, in-range, known, level-below}
+use Rattle.model.specs.Plan.{room-for, record-fault, site-steps, listed, closed-backwards, loops, self-depends, end-fault, bytes-of}
 use Rattle.model.specs.Reading.{read, read-on}
 use Rattle.model.specs.PlanValue.{reading-told}
 
@@ -32,6 +33,7 @@ told-exactly (a ∷ b ∷ c ∷ r) n p e = absurd (never-both e refl)
 
 test : Case → Bool
 test (site threads active number) = eqb (firmware threads (counts active)) number
+test (call threads active asked admitted) = told-is (admission-answer threads (counts active) asked) 0 admitted
 test (plan bytes number place) = told-is (reading-told (read bytes)) number place
 
 tests : List Case → Bool
@@ -46,6 +48,7 @@ All (c ∷ cs) = Holds c × All cs
 passes : (c : Case) → test c ≡ true → Holds c
 unfolding test
 passes (site threads active number) e = eqb-true (firmware threads (counts active)) number e
+passes (call threads active asked admitted) e = told-exactly (admission-answer threads (counts active) asked) 0 admitted e
 passes (plan bytes number place) e = told-exactly (reading-told (read bytes)) number place e
 
 all-pass : (cs : List Case) → tests cs ≡ true → All cs
@@ -54,8 +57,9 @@ all-pass [] e = tt
 all-pass (c ∷ cs) e = (passes c (and-left (test c) (tests cs) e), all-pass cs (and-right (test c) (tests cs) e))
 
 computed : tests table ≡ true
-unfolding tests test told-is firmware refused limit lawful full A raised read read-on next threads place calls edges follows in-range known level-below room-for
-    record-fault site-steps listed closed-backwards loops self-depends end-fault bytes-of
+unfolding tests test told-is firmware admission-answer may-admit refused limit lawful full A raised read read-on next
+    threads place calls edges follows in-range known level-below room-for record-fault site-steps listed
+    closed-backwards loops self-depends end-fault bytes-of
 computed = refl
 
 pub level-sheet : All table

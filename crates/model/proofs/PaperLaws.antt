@@ -1,19 +1,20 @@
--- The paper's Lemmas 1 and 2 and Corollaries 1 and 2, that its φ over the levels in use is document 01's lawful, and that the highest
--- admissible level is the largest that may be admitted: from the laws of A and of the rule LIVE-P. Assumes nothing.
+-- The paper's Lemmas 1 and 2 and Corollaries 1 and 2, that its φ over the levels in use is document 01's lawful and its guard φ′ 01's admission,
+-- and that the highest admissible level is the largest that may be admitted: from the laws of A and of the rule LIVE-P. Assumes nothing.
 use Prim.Native.Nat.{ℕ, zero, suc, _+_, _-_, _≤_, _<_}
 use native.Mathlib.Omega.{arith}
-use mathlib.Core.Path.{_≡_, refl, sym, ap, _∙_}
+use mathlib.Core.Path.{_≡_, refl, sym, ap, subst, _∙_}
 use mathlib.Core.Logic.{⊎-elim, _↔_}
 use mathlib.Core.Bool.{true, false}
 use mathlib.Core.List.{List}
 use lib.ListN.{length, getD}
-use lib.Dec.{ltb}
-use borrow.Author.Tests.{lt-ltb, le-ltb, ltb-true}
-use Rattle.lists.proofs.CountLaws.{lt-or-ge, and-left, and-right, and-both, same-test, never-both, first-le}
+use lib.Dec.{ltb, eqb}
+use lib.Seq.{getD-set-other}
+use borrow.Author.Tests.{lt-ltb, le-ltb, ltb-true, eqb-true, eqb-false}
+use Rattle.lists.proofs.CountLaws.{lt-or-ge, decided, and-left, and-right, and-both, same-test, never-both, first-le}
 use Rattle.model.specs.Site.{A, lawful, raised, may-admit, full, limit}
-use Rattle.model.specs.Paper.{φ, In-use}
+use Rattle.model.specs.Paper.{φ, φ′, In-use}
 use Rattle.model.specs.Rule.{LIVE-P}
-use Rattle.model.proofs.SiteLaws.{A-step, A-end, A-raised, A-kept, lawful-at, lawful-all}
+use Rattle.model.proofs.SiteLaws.{A-step, A-end, A-raised, A-kept, A-one, lawful-at, lawful-all}
 use Rattle.model.proofs.RuleLaws.{B, LIVE-P-sound, over-limit, under-limit, free-lawful, admits-below}
 
 -- one call more raises no sum by more than one
@@ -130,3 +131,34 @@ lawful-φ used T a u = (λ law k h. omega (arith, lawful-at T a law k (u .below 
         omega (arith, p (w .0) l, u .below (w .0) l, w .1, w .3))
         (λ (q : A a k ≤ 0). omega arith)
         (lt-or-ge 0 (A a k))
+
+-- the levels in use with one call more of one of them
+raised-in-use : (used : ℕ → Type 0) (T : ℕ) (a : List ℕ) (i : ℕ) → In-use used T a → used i → In-use used T (raised a i)
+unfolding raised
+raised-in-use used T a i u asked =
+    record {
+      below = u .below;
+      active = λ k h.
+          ⊎-elim
+          (λ (e : eqb i k ≡ true). subst used (eqb-true i k e) asked)
+          (λ (f : eqb i k ≡ false). u .active k (omega (arith, getD-set-other a i k (suc (getD a i 0)) 0 (λ e. eqb-false i k f (sym e)))))
+          (decided (eqb i k));
+    }
+
+-- 01's "the site stays lawful with a[i] one larger", of a level in use, is the paper's φ′ᵢ over the levels in use: the guard of LIVE-P
+pub admit-φ′ : (used : ℕ → Type 0) (T : ℕ) (a : List ℕ) (i : ℕ) → In-use used T a → used i → T ≤ length a
+    → (may-admit T a i ≡ true) ↔ φ′ used T a i
+unfolding may-admit
+admit-φ′ used T a i u asked long = (
+  λ e k h. omega (arith, both .0 (and-right (ltb i T) (lawful T (raised a i)) e) k h, A-one a i k within),
+  λ p.
+      and-both (ltb i T) (lawful T (raised a i))
+      (lt-ltb i T (u .below i asked))
+      (both .1 (λ k h. omega (arith, p k h, A-one a i k within))),
+)
+  where
+    within : i < length a
+    within = omega (arith, u .below i asked)
+
+    both : (lawful T (raised a i) ≡ true) ↔ φ used T (raised a i)
+    both = lawful-φ used T (raised a i) (raised-in-use used T a i u asked)

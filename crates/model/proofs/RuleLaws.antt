@@ -64,10 +64,13 @@ module _ (rule : Rule) (sound : Sound rule) where
       let n = sound .near i (w .0) (w .1) (w .2) in
       (w .0, w .1, w .2, omega (arith, w .3, more (w .0) (omega (arith, n .0, n .1))))
 
-  -- X: a blocked level stays blocked when some calls are taken out and at least as many of that level or higher are put in
-  pub X : (T : ℕ) (a b : List ℕ) (taken i : ℕ) (ins : List ℕ)
-      → ((k : ℕ) → A a k ≤ A b k + taken) → From i (length b) ins → taken ≤ length ins → Blocked rule T a i → Blocked rule T (put b ins) i
-  X T a b taken i ins out fits enough = M T T a (put b ins) i (le-refl T) (λ k h. omega (arith, out k, put-counts b i ins fits k h))
+  -- X: a blocked level stays blocked from T to U threads when some calls are taken out and others of that level or higher are put in, as long as
+  -- the threads that come are no more than the calls put in beyond those taken out
+  pub X : (T U : ℕ) (a b : List ℕ) (taken i : ℕ) (ins : List ℕ)
+      → ((k : ℕ) → A a k ≤ A b k + taken) → From i (length b) ins → U + taken ≤ T + length ins → Blocked rule T a i → Blocked rule U (put b ins) i
+  X T U a b taken i ins out fits enough w =
+      let n = sound .near i (w .0) (w .1) (w .2) in
+      (w .0, w .1, w .2, omega (arith, w .3, out (w .0), put-counts b i ins fits (w .0) (omega (arith, n .0, n .1))))
 
 -- LIVE-P
 pub LIVE-P-sound : Sound LIVE-P

@@ -9,8 +9,10 @@ use mathlib.Core.Bool.{true, false, not, _||_}
 use mathlib.Core.List.{List}
 use lib.ListN.{length, getD, length-set}
 use lib.Dec.{leb, ltb, eqb}
-use borrow.Author.Tests.{leb-true, le-leb, ltb-false, eqb-true, eqb-false, eq-eqb}
-use Rattle.lists.proofs.CountLaws.{every-at, every-all, sum-drop-step, sum-drop-end, sum-drop-raised, sum-drop-kept, lt-or-ge, or-left, or-right, not-false-true}
+use borrow.Author.Tests.{leb-true, le-leb, lt-leb, ltb-false, le-ltb, eqb-true, eqb-false, eq-eqb, ne-eqb}
+use Rattle.lists.proofs.CountLaws.{every-at, every-all, lt-or-ge, or-left, or-right, not-false-true}
+use Rattle.lists.proofs.CountLaws.{sum-drop-step, sum-drop-end, sum-drop-raised, sum-drop-kept}
+use Rattle.lists.specs.Count.{one}
 use Rattle.model.specs.Site.{A, lawful, raised, full, refused}
 use Rattle.ids.specs.Limits.{most-threads}
 
@@ -102,10 +104,25 @@ accepted T a e =
       law = not-false-true (lawful T a) (or-right (none || many || short || over) (not (lawful T a)) e);
     }
 
--- no level at or above T has a call, and no level has more calls than threads
+pub not-refused : (T : ℕ) (a : List ℕ) → Accepted T a → refused T a ≡ false
+unfolding refused
+not-refused T a ok =
+    simp (
+      ne-eqb T 0 (λ e. omega (arith, ok .some)),
+      le-ltb most-threads T (ok .most),
+      eq-eqb (length a) most-threads (ok .long),
+      eq-eqb (A a T) 0 (ok .within),
+      ok .law,
+    )
+
+-- no level at or above T has a call
 pub level-empty : (T : ℕ) (a : List ℕ) (k : ℕ) → A a T ≡ 0 → T ≤ k → A a k ≡ 0
 level-empty T a k within h = omega (arith, A-down a T k h)
 
-pub level-most : (T : ℕ) (a : List ℕ) (k : ℕ) → A a T ≡ 0 → lawful T a ≡ true → A a k ≤ T
-level-most T a k within law =
-    ⊎-elim (λ (p : k < T). omega (arith, lawful-at T a law k p)) (λ (p : T ≤ k). omega (arith, level-empty T a k within p)) (lt-or-ge k T)
+-- one call more of level i is one more at each level up to i
+pub A-one : (a : List ℕ) (i k : ℕ) → i < length a → A (raised a i) k ≡ A a k + one (leb k i)
+A-one a i k h =
+    ⊎-elim
+    (λ (p : i < k). omega (arith, A-kept a i k p, ap one (lt-leb k i p)))
+    (λ (p : k ≤ i). omega (arith, A-raised a i k h p, ap one (le-leb k i p)))
+    (lt-or-ge i k)

@@ -12,6 +12,7 @@ use mathlib.Core.List.{List}
 use lib.ListN.{length, getD}
 use lib.Dec.{ltb}
 use borrow.Author.Tests.{lt-ltb, le-ltb, eq-eqb, eqb-true}
+use Rattle.ids.specs.Limits.{most-threads}
 use Rattle.lists.proofs.CountLaws.{lt-or-ge, never-both, first-is, first-none, not-true-false}
 use Rattle.model.specs.Site.{A, lawful, full, limit}
 use Rattle.model.specs.declared.Walked.{Walked}
@@ -207,13 +208,13 @@ module _ (T : ℕ) (a : List ℕ) (law : lawful T a ≡ true) where
 
   -- The walk from the root of a site of 64 levels ends at the lowest full level, or at T where none is full: the limit, by its definition.
   -- It stands on 7 tree nodes where some level is full, and otherwise on 1
-  module _ (some : 0 < T) (most : T ≤ 64) (long : length a ≡ 64) where
+  module _ (some : 0 < T) (most : T ≤ most-threads) (long : length a ≡ most-threads) where
     pub from-root-is : (from-root T a .leaf ≡ limit T a) × (from-root T a .stood ≡ cond (ltb (limit T a) T) 7 1)
     unfolding from-root limit
     from-root-is = go (is (slack T a root-height 0) 0) refl
       where
-        none-right : A a 64 ≡ 0
-        none-right = A-end a 64 (omega arith)
+        none-right : A a most-threads ≡ 0
+        none-right = A-end a most-threads (omega arith)
 
         go : (b : Bool) → is (slack T a root-height 0) 0 ≡ b
             → let w = cond b (walk T a root-height 0 0) (record { leaf = T; stood = 1 }) in

@@ -5,7 +5,7 @@ use mathlib.Core.List.{List, [], _∷_, _++_}
 use lib.ListN.{replicate}
 use Rattle.ids.specs.Limits.{most-threads}
 use Rattle.model.specs.Site.{put}
-use Rattle.model.specs.Answers.{firmware}
+use Rattle.model.specs.Answers.{firmware, admission-answer}
 use Rattle.model.specs.Reading.{read}
 use Rattle.model.specs.PlanValue.{reading-told}
 
@@ -13,6 +13,8 @@ use Rattle.model.specs.PlanValue.{reading-told}
 pub data Case : Type 0 where
   -- threads, the levels of the active calls, and the firmware's number: the highest admissible level plus 1, or 0 for none
   site : ℕ → List ℕ → ℕ → Case
+  -- threads, the levels of the active calls, the level of one more, and 1 where it may be admitted or 0 where it waits
+  call : ℕ → List ℕ → ℕ → ℕ → Case
   -- plan bytes, and what the reading tells: 0 and the bytes used, or the refusal and its offset
   plan : List ℕ → ℕ → ℕ → Case
 
@@ -23,6 +25,7 @@ counts active = put (replicate most-threads 0) active
 -- what a line says of the definitions
 abbrev pub Holds : Case → Type 0
 Holds (site threads active number) = firmware threads (counts active) ≡ number
+Holds (call threads active asked admitted) = admission-answer threads (counts active) asked ≡ 0 ∷ admitted ∷ []
 Holds (plan bytes number place) = reading-told (read bytes) ≡ number ∷ place ∷ []
 
 -- two sites of 2 threads; nodes 0 at site 0, 1 and 2 at site 1, 3 at site 0; edges 0 to 1 and 2 to 3; all levels 0 but that of node 2
@@ -48,6 +51,7 @@ table =
     ∷ site 10 (1 ∷ 2 ∷ 4 ∷ 4 ∷ 5 ∷ 6 ∷ 9 ∷ []) 9
     -- T = 3, active 1 1: highest 0, so level 2 waits
     ∷ site 3 (1 ∷ 1 ∷ []) 1
+    ∷ call 3 (1 ∷ 1 ∷ []) 2 0
     -- T = 1, none active: 0
     ∷ site 1 [] 1
     -- T = 1, active 0: none

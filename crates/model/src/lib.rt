@@ -24,9 +24,10 @@ pub enum AdmissionAnswer {
     Refused,
 }
 
-// The status page's figure for some level.
+// The status page's figure for some level; a level that is not below the threads has none, and a refused site has none at any level.
 pub enum RoomAnswer {
     Room(u8),
+    NoSuchLevel,
     Refused,
 }
 

@@ -1,3 +1,4 @@
+mod StoredLaws
 mod WalkLaws
 mod BuildLaws
 mod DescentLaws

@@ -13,15 +13,16 @@ use mathlib.Core.Bool.{Bool, true, false, cond}
 use mathlib.Core.List.{List}
 use Rattle.model.specs.Tree.{onward}
 use Rattle.model.specs.declared.Walked.{Walked}
-use Rattle.tree.specs.Places.{walk-in}
+use Rattle.ids.specs.Limits.{most-threads}
+use Rattle.tree.specs.Places.{places, no-slack, walk-in}
 
 -- Places
 
 -- a place at the leaves
-pub leaf-place : (h n : ℕ) → h ≡ 0 → 64 ≤ n * 2 ^ h → (n + 1) * 2 ^ h ≤ 128 → (64 ≤ n) × (n < 128)
+pub leaf-place : (h n : ℕ) → h ≡ 0 → most-threads ≤ n * 2 ^ h → (n + 1) * 2 ^ h ≤ places → (most-threads ≤ n) × (n < places)
 leaf-place h n e low high =
-    let l : 64 ≤ n * 2 ^ 0 = rw e at low in
-    let u : (n + 1) * 2 ^ 0 ≤ 128 = rw e at high in
+    let l : most-threads ≤ n * 2 ^ 0 = rw e at low in
+    let u : (n + 1) * 2 ^ 0 ≤ places = rw e at high in
     (omega arith, omega arith)
 
 -- one height lower
@@ -31,17 +32,17 @@ pow-down (suc h) f = let e : suc h - 1 ≡ h = omega arith in omega (arith, ap (
 
 -- both halves of a place above the leaves are places one height lower
 pub record Halves (h n : ℕ) : Type 0 where
-  pub inside : 2 * n + 1 < 128
-  pub left-low : 64 ≤ 2 * n * 2 ^ (h - 1)
-  pub left-high : (2 * n + 1) * 2 ^ (h - 1) ≤ 128
-  pub right-low : 64 ≤ (2 * n + 1) * 2 ^ (h - 1)
-  pub right-high : (2 * n + 1 + 1) * 2 ^ (h - 1) ≤ 128
+  pub inside : 2 * n + 1 < places
+  pub left-low : most-threads ≤ 2 * n * 2 ^ (h - 1)
+  pub left-high : (2 * n + 1) * 2 ^ (h - 1) ≤ places
+  pub right-low : most-threads ≤ (2 * n + 1) * 2 ^ (h - 1)
+  pub right-high : (2 * n + 1 + 1) * 2 ^ (h - 1) ≤ places
 
-pub halves : (h n : ℕ) → (h ≡ 0 → ⊥) → 64 ≤ n * 2 ^ h → (n + 1) * 2 ^ h ≤ 128 → Halves h n
+pub halves : (h n : ℕ) → (h ≡ 0 → ⊥) → most-threads ≤ n * 2 ^ h → (n + 1) * 2 ^ h ≤ places → Halves h n
 halves h n f low high =
     let p = 2 ^ (h - 1) in
-    let l : 64 ≤ n * (2 * p) = rw (pow-down h f) at low in
-    let u : (n + 1) * (2 * p) ≤ 128 = rw (pow-down h f) at high in
+    let l : most-threads ≤ n * (2 * p) = rw (pow-down h f) at low in
+    let u : (n + 1) * (2 * p) ≤ places = rw (pow-down h f) at high in
     let least : (n + 1) * 1 ≤ (n + 1) * p = mul-le-mul-left (n + 1) (pow-pos (h - 1)) in
     record { inside = omega arith; left-low = omega arith; left-high = omega arith; right-low = omega arith; right-high = omega arith }
 
@@ -55,25 +56,25 @@ module _ (sizes slacks : List ℕ) (n carried : ℕ) where
   abbrev with-right : ℕ
   with-right = getD sizes (2 * n + 1) 0 + carried
 
-  pub step-left : (h : ℕ) → (h ≡ 0 → ⊥) → getD slacks (2 * n) 0 ≡ with-right
+  pub step-left : (h : ℕ) → (h ≡ 0 → ⊥) → getD slacks (2 * n) 0 ≡ no-slack + with-right
       → onward (walk-in sizes slacks (h - 1) (2 * n) with-right) ≡ walk-in sizes slacks h n carried
   step-left zero f e = absurd (f refl)
   step-left (suc h) f e =
       let d : suc h - 1 ≡ h = omega arith in
-      rw (d, eq-eqb (getD slacks (2 * n) 0) with-right e)
+      rw (d, eq-eqb (getD slacks (2 * n) 0) (no-slack + with-right) e)
 
-  pub step-right : (h : ℕ) → (h ≡ 0 → ⊥) → (getD slacks (2 * n) 0 ≡ with-right → ⊥)
+  pub step-right : (h : ℕ) → (h ≡ 0 → ⊥) → (getD slacks (2 * n) 0 ≡ no-slack + with-right → ⊥)
       → onward (walk-in sizes slacks (h - 1) (2 * n + 1) carried) ≡ walk-in sizes slacks h n carried
   step-right zero f e = absurd (f refl)
   step-right (suc h) f e =
       let d : suc h - 1 ≡ h = omega arith in
-      rw (d, ne-eqb (getD slacks (2 * n) 0) with-right e)
+      rw (d, ne-eqb (getD slacks (2 * n) 0) (no-slack + with-right) e)
 
 -- one tree node for each height
 pub stood-on : (sizes slacks : List ℕ) (h n carried : ℕ) → walk-in sizes slacks h n carried .stood ≡ suc h
 stood-on sizes slacks zero n carried = refl
 stood-on sizes slacks (suc h) n carried =
-    go (eqb (getD slacks (2 * n) 0) (getD sizes (2 * n + 1) 0 + carried)) _ _
+    go (eqb (getD slacks (2 * n) 0) (no-slack + (getD sizes (2 * n + 1) 0 + carried))) _ _
     (stood-on sizes slacks h (2 * n) (getD sizes (2 * n + 1) 0 + carried))
     (stood-on sizes slacks h (2 * n + 1) carried)
   where

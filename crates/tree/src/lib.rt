@@ -1,21 +1,34 @@
-// The tree of counts of one site and the walk down it. An inner crate: its entry, `descend`, is called by `book` alone, once the site has been
-// found sound. The tree stands in two arrays, sizes and slacks: the root at place 1, the halves of place n at 2n and 2n + 1, and the leaf of
-// level k at 64 + k. It is built once from the leaves. A slack of 255 is no limit.
+// The tree of counts of one site and the walk down it, for `book`. The tree stands in two arrays, sizes and slacks: the root at place 1, the
+// halves of place n at 2n and 2n + 1, and the leaf of level k at 64 + k. It is built once from the leaves. A slack is stored with 64 added, so
+// that it may fall below 0: at the root it does exactly where the site is not lawful. A slack of 255 is no limit.
 ghost use mathlib.Core.Path.{_≡_};
-ghost use mathlib.Core.Bool.{false};
-ghost use Prim.Native.Nat.{ℕ, _+_, _-_, _*_, _^_, _≤_, _<_, min};
-ghost use lib.ListN.{length, getD, replicate};
-ghost use Rattle.model.specs.Site.{refused};
-ghost use Rattle.model.specs.Tree.{from-root};
-ghost use Rattle.tree.specs.Places.{leaf-size, leaf-slack, Joinable, pair-size, pair-slack, Built, walk-in};
+ghost use mathlib.Core.Bool.{true, cond};
+ghost use mathlib.Core.Logic.{_↔_};
+ghost use Prim.Native.Nat.{ℕ, _+_, min};
+ghost use lib.Dec.{eqb};
+ghost use lib.ListN.{length};
+ghost use Rattle.ids.specs.Limits.{most-threads};
+ghost use Rattle.model.specs.Site.{A as above};
+ghost use Rattle.model.specs.Tree.{root-height};
 ghost use Rattle.lists.specs.Fill.{Filled};
+ghost use Rattle.tree.specs.Places.{Counted, Span, Arrays, Fresh, leaf-size, leaf-slack, Joinable, pair-size, pair-slack, Built, Walkable, walk-in};
+ghost use Rattle.tree.specs.Descent.{descent};
 use ids::Site;
 use model::Walked;
+
+// Where the walk from the root ended; refused where the numbers are not those of a lawful site.
+pub enum Descent {
+    Ended(Walked),
+    Refused,
+}
 
 // The places of a tree over all levels; place 0 is not used.
 const PLACES: usize = 2 * Site::THREADS;
 
 const NO_LIMIT: u8 = 255;
+
+// How a slack of 0 is stored.
+const NO_SLACK: u8 = 64;
 
 const ROOT: usize = 1;
 
@@ -23,17 +36,61 @@ const ROOT_HEIGHT: u8 = 6;
 // The tree nodes that a walk stands on which does not leave the root.
 const ROOT_ALONE: u8 = 1;
 
-// Sets the leaves of the levels below `threads`.
-fn leaves(threads: u8, counts: &[u8], sizes: &mut [u8], slacks: &mut [u8])
-    requires { ⌜ (threads ≤ 64) × (length (now counts) ≡ 64) × (length (now sizes) ≡ 128) × (length (now slacks) ≡ 128) ⌝ }
-    requires { ⌜ ((k : ℕ) → k < threads → getD (now counts) k 0 + k ≤ threads) ⌝ }
-    ensures { λ _. ⌜ Filled (leaf-size (now (counts .entry))) 64 (64 + threads) (now (sizes .entry)) (now (sizes .exit)) ⌝ }
-    ensures { λ _. ⌜ Filled (leaf-slack threads (now (counts .entry))) 64 (64 + threads) (now (slacks .entry)) (now (slacks .exit)) ⌝ }
+// The active calls of the levels from `from` up to `to`, that one left out.
+fn calls_in(counts: &[u8], from: usize, to: usize) -> usize
+    requires { ⌜ Span (now counts) from to ⌝ }
+    ensures { λ r. ⌜ r + above (now (counts .entry)) to ≡ above (now (counts .entry)) from ⌝ }
 {
-    let end = threads as usize;
-    let mut left = threads;
+    let mut sum: u16 = 0;
+    let mut k = from;
+    while k < to {
+        sum += counts[k] as u16;
+        k += 1;
+    }
+    sum as usize
+}
+
+// The active calls of level `from` and higher; none where the counts are not those of all levels.
+pub fn calls_from(from: usize, counts: &[u8]) -> usize
+    ensures { λ r. ⌜ r ≡ cond (eqb (length (now (counts .entry))) most-threads) (above (now (counts .entry)) from) 0 ⌝ }
+{
+    if counts.len() != Site::THREADS {
+        return 0;
+    }
+    if Site::THREADS < from {
+        return 0;
+    }
+    calls_in(counts, from, Site::THREADS)
+}
+
+// Whether a tree can be built: the numbers are in range, no level at or above `threads` has a call, and there are no more calls than threads.
+fn countable(threads: usize, counts: &[u8]) -> bool
+    ensures { λ r. ⌜ (r ≡ true) ↔ Counted threads (now (counts .entry)) ⌝ }
+{
+    if threads == 0 {
+        return false;
+    }
+    if Site::THREADS < threads {
+        return false;
+    }
+    if counts.len() != Site::THREADS {
+        return false;
+    }
+    if calls_in(counts, threads, Site::THREADS) != 0 {
+        return false;
+    }
+    calls_in(counts, 0, threads) <= threads
+}
+
+// Sets the leaves of the levels below `threads`.
+fn leaves(threads: usize, counts: &[u8], sizes: &mut [u8], slacks: &mut [u8])
+    requires { ⌜ Counted threads (now counts) × Arrays (now sizes) (now slacks) ⌝ }
+    ensures { λ _. ⌜ Filled (leaf-size (now (counts .entry))) most-threads (most-threads + threads) (now (sizes .entry)) (now (sizes .exit)) ⌝ }
+    ensures { λ _. ⌜ Filled (leaf-slack threads (now (counts .entry))) most-threads (most-threads + threads) (now (slacks .entry)) (now (slacks .exit)) ⌝ }
+{
+    let mut left = threads as u8 + NO_SLACK;
     let mut k = 0;
-    while k < end {
+    while k < threads {
         let count = counts[k];
         sizes[Site::THREADS + k] = count;
         slacks[Site::THREADS + k] = left - count;
@@ -42,15 +99,14 @@ fn leaves(threads: u8, counts: &[u8], sizes: &mut [u8], slacks: &mut [u8])
     }
 }
 
-// Makes each of the places `first` to `last` from its two halves. Their left halves have limits.
-fn join(sizes: &mut [u8], slacks: &mut [u8], first: usize, last: usize)
-    requires { ⌜ (length (now sizes) ≡ 128) × (length (now slacks) ≡ 128) × (first ≤ last) × (last < 2 * first) × (last < 64) ⌝ }
-    requires { ⌜ Joinable (now sizes) (now slacks) first last ⌝ }
-    ensures { λ _. ⌜ Filled (pair-size (now (sizes .entry))) first (last + 1) (now (sizes .entry)) (now (sizes .exit)) ⌝ }
-    ensures { λ _. ⌜ Filled (pair-slack (now (sizes .entry)) (now (slacks .entry))) first (last + 1) (now (slacks .entry)) (now (slacks .exit)) ⌝ }
+// Makes each of the places from `first` up to `end`, that one left out, from its two halves.
+fn join(sizes: &mut [u8], slacks: &mut [u8], first: usize, end: usize)
+    requires { ⌜ Joinable (now sizes) (now slacks) first end ⌝ }
+    ensures { λ _. ⌜ Filled (pair-size (now (sizes .entry))) first end (now (sizes .entry)) (now (sizes .exit)) ⌝ }
+    ensures { λ _. ⌜ Filled (pair-slack (now (sizes .entry)) (now (slacks .entry))) first end (now (slacks .entry)) (now (slacks .exit)) ⌝ }
 {
     let mut n = first;
-    while n <= last {
+    while n < end {
         let right = sizes[2 * n + 1];
         sizes[n] = sizes[2 * n] + right;
         slacks[n] = smaller(slacks[2 * n + 1], slacks[2 * n] - right);
@@ -64,27 +120,24 @@ fn smaller(a: u8, b: u8) -> u8
     if a < b { a } else { b }
 }
 
-// Builds the tree of a sound site in arrays that are as `descend` makes them. Places whose levels are all at or above `threads` keep size 0 and
-// no limit.
-fn build(threads: u8, counts: &[u8], sizes: &mut [u8], slacks: &mut [u8])
-    requires { ⌜ refused threads (now counts) ≡ false ⌝ }
-    requires { ⌜ (now sizes ≡ replicate 128 0) × (now slacks ≡ replicate 128 255) ⌝ }
-    ensures { λ _. ⌜ Built 6 threads (now (counts .entry)) (now (sizes .exit)) (now (slacks .exit)) ⌝ }
+// Builds the tree in arrays that are as `descend` makes them. Places whose levels are all at or above `threads` keep size 0 and no limit.
+fn build(threads: usize, counts: &[u8], sizes: &mut [u8], slacks: &mut [u8])
+    requires { ⌜ Counted threads (now counts) × Fresh (now sizes) (now slacks) ⌝ }
+    ensures { λ _. ⌜ Built root-height threads (now (counts .entry)) (now (sizes .exit)) (now (slacks .exit)) ⌝ }
 {
     leaves(threads, counts, sizes, slacks);
     let mut first = Site::THREADS;
-    let mut last = Site::THREADS - 1 + threads as usize;
+    let mut end = Site::THREADS + threads;
     while ROOT < first {
         first /= 2;
-        last /= 2;
-        join(sizes, slacks, first, last);
+        end = (end + 1) / 2;
+        join(sizes, slacks, first, end);
     }
 }
 
 // The walk from place n on, `height` above the leaves, with the calls to its right carried.
 fn walk(sizes: &[u8], slacks: &[u8], height: u8, n: usize, carried: usize) -> Walked
-    requires { ⌜ (length (now sizes) ≡ 128) × (length (now slacks) ≡ 128) × (height ≤ 6) ⌝ }
-    requires { ⌜ (64 ≤ n * 2 ^ height) × ((n + 1) * 2 ^ height ≤ 128) × (carried + 255 * height ≤ 65535) ⌝ }
+    requires { ⌜ Walkable (now sizes) (now slacks) height n carried ⌝ }
     ensures { λ r. ⌜ r ≡ walk-in (now (sizes .entry)) (now (slacks .entry)) height n carried ⌝ }
 {
     if height == 0 {
@@ -94,7 +147,7 @@ fn walk(sizes: &[u8], slacks: &[u8], height: u8, n: usize, carried: usize) -> Wa
         };
     }
     let with_right = sizes[2 * n + 1] as usize + carried;
-    if slacks[2 * n] as usize == with_right {
+    if slacks[2 * n] as usize == NO_SLACK as usize + with_right {
         let below = walk(sizes, slacks, height - 1, 2 * n, with_right);
         return Walked {
             leaf: below.leaf,
@@ -108,20 +161,25 @@ fn walk(sizes: &[u8], slacks: &[u8], height: u8, n: usize, carried: usize) -> Wa
     }
 }
 
-// The walk from the root of a sound site's tree: where it ends is the highest admissible level plus 1. An inner function: `book` alone calls it,
-// once the site has been found sound. So it asks for that and does not look again.
-pub fn descend(threads: u8, counts: &[u8]) -> Walked
-    requires { ⌜ refused threads (now counts) ≡ false ⌝ }
-    ensures { λ r. ⌜ r ≡ from-root threads (now (counts .entry)) ⌝ }
+// The walk from the root: where it ends is the highest admissible level plus 1.
+pub fn descend(threads: usize, counts: &[u8]) -> Descent
+    ensures { λ r. ⌜ r ≡ descent threads (now (counts .entry)) ⌝ }
 {
+    if !countable(threads, counts) {
+        return Descent::Refused;
+    }
     let mut sizes = [0u8; PLACES];
     let mut slacks = [NO_LIMIT; PLACES];
     build(threads, counts, &mut sizes, &mut slacks);
-    if slacks[ROOT] > 0 {
-        return Walked {
-            leaf: threads,
-            stood: ROOT_ALONE,
-        };
+    let root = slacks[ROOT];
+    if root < NO_SLACK {
+        return Descent::Refused;
     }
-    walk(&sizes, &slacks, ROOT_HEIGHT, ROOT, 0)
+    if NO_SLACK < root {
+        return Descent::Ended(Walked {
+            leaf: threads as u8,
+            stood: ROOT_ALONE,
+        });
+    }
+    Descent::Ended(walk(&sizes, &slacks, ROOT_HEIGHT, ROOT, 0))
 }

@@ -1,47 +1,41 @@
--- `book::admission` meets its contract: a refused site or level gets the refusal, and otherwise the level is compared with the walk's end.
--- Assumes nothing.
+-- `book::admission` meets its contract: a refused walk or a level too high gets the refusal, and otherwise the level is compared with the walk's
+-- end. Assumes nothing.
+use mathlib.Core.Path.{_≡_, sym, _∙_}
+use mathlib.Core.Bool.{true, false}
 use denote.Ref.{now}
-use borrow.Author.Tests.{lt-ltb, le-ltb}
-use mathlib.Core.Path.{ap, sym, _∙_}
-use mathlib.Core.Bool.{Bool, cond}
-use mathlib.Core.List.{[], _∷_}
-use Rattle.book.proofs.BookLaws.{when-unsound, when-sound, admission-refused, admission-beyond, admission-walked}
 use borrow.Author.Needs.{needs}
+use borrow.Author.Tests.{lt-ltb, le-ltb}
+use Rattle.tree.specs.Descent.{descent}
+use Rattle.tree.specs.declared.Descent.{Descent}
+use Rattle.book.proofs.BookLaws.{admission-refused, admission-beyond, admission-below}
 use Rattle.book.proofs.admission.Statement.{statement}
 use Rattle.book.proofs.admission.Tie as tie
 
-sound-requires : tie.Need-sound-requires
-sound-requires c κs = search needs
+-- the function's entry, seen from where the walk's answer is known
+abbrev start-of : tie.After-walk → tie.Start
+start-of c = c .before .before .before .before
+
+ended : (c : tie.After-walk) → Descent.Ended (c .walk .given .0 .0) ≡ descent (start-of c .args .threads) (now (start-of c .args .counts))
+ended c = sym (c .walk .given .1) ∙ c .before .before .descend .ensures
 
 returns : tie.Need-returns
-returns c =
-    let s = c .before .before .before in
-    admission-refused (s .args .threads) (now (s .args .counts)) (when-unsound _ _ (c .before .sound .ensures) (c .if1 .taken)) (s .args .asked .0)
+returns c = admission-refused _ _ (sym (c .enum-told .given .1) ∙ c .before .before .descend .ensures) _
 
 returns-2 : tie.Need-returns-2
-returns-2 c =
-    let s = c .before .before .before .before .before in
-    admission-beyond (s .args .threads) (now (s .args .counts)) (when-sound _ _ (c .before .before .before .sound .ensures) (c .before .before .if1 .left)) (s .args .asked .0) (c .if2 .taken)
-
-descend-requires : tie.Need-descend-requires
-descend-requires c κs = when-sound _ _ (c .before .before .before .sound .ensures) (c .before .before .if1 .left)
+returns-2 c = let at-end = c .before .before .before in admission-beyond _ _ _ (ended at-end) _ (c .if1 .taken)
 
 returns-3 : tie.Need-returns-3
 returns-3 c =
-    let s = c .before .before .before .before .before .before .before .before .before in
-    let w = c .before .before .before .descend .result in
-    let i = s .args .asked .0 in
-    ap (λ (b : Bool). 0 ∷ cond b 1 0 ∷ []) (sym (lt-ltb i (w .leaf) (c .if3 .taken)))
-    ∙ admission-walked (s .args .threads) (now (s .args .counts)) (when-sound _ _ (c .before .before .before .before .before .before .before .sound .ensures) (c .before .before .before .before .before .before .if1 .left)) w (c .before .before .before .descend .ensures) i (c .before .before .before .before .if2 .left)
+    let below = c .before .before .before in
+    let at-end = below .before .before .before in
+    admission-below _ _ _ (ended at-end) _ true (below .if1 .left) (lt-ltb _ _ (c .if2 .taken))
 
 returns-4 : tie.Need-returns-4
 returns-4 c =
-    let s = c .before .before .before .before .before .before .before .before .before in
-    let w = c .before .before .before .descend .result in
-    let i = s .args .asked .0 in
-    ap (λ (b : Bool). 0 ∷ cond b 1 0 ∷ []) (sym (le-ltb i (w .leaf) (c .if3 .left)))
-    ∙ admission-walked (s .args .threads) (now (s .args .counts)) (when-sound _ _ (c .before .before .before .before .before .before .before .sound .ensures) (c .before .before .before .before .before .before .if1 .left)) w (c .before .before .before .descend .ensures) i (c .before .before .before .before .if2 .left)
+    let below = c .before .before .before in
+    let at-end = below .before .before .before in
+    admission-below _ _ _ (ended at-end) _ false (below .if1 .left) (le-ltb _ _ (c .if2 .left))
 
 pub admission-spec : {M : Type 1} → statement M
 admission-spec =
-    tie.close (tie.spec sound-requires returns returns-2 descend-requires returns-3 returns-4)
+    tie.close (tie.spec (λ c κs. search needs) (λ c. search needs) (λ c. search needs) returns returns-2 returns-3 returns-4)

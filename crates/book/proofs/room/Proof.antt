@@ -1,73 +1,54 @@
--- `book::room` meets its contract: a refused site or level gets the refusal, and otherwise the calls from the level on are taken off.
+-- `book::room` meets its contract: a refused walk or a level too high gets its refusal, and otherwise the calls from the level on are taken off.
 -- Assumes nothing.
+use mathlib.Core.Path.{_≡_, sym, _∙_}
 use denote.Ref.{now}
-use Prim.Native.Nat.{ℕ, _-_}
-use native.Mathlib.Omega.{arith}
-use Rattle.model.specs.Site.{room}
-use Rattle.model.proofs.SiteLaws.{accepted, lawful-at}
-use mathlib.Core.Path.{ap, _∙_}
-use mathlib.Core.List.{[], _∷_}
-use Rattle.book.proofs.BookLaws.{when-unsound, when-sound, room-refused, room-beyond, room-below}
 use borrow.Author.Needs.{needs}
+use Rattle.tree.specs.Descent.{descent}
+use Rattle.tree.specs.declared.Descent.{Descent}
+use Rattle.book.proofs.BookLaws.{room-refused, room-beyond, room-fits, room-below}
 use Rattle.book.proofs.room.Statement.{statement}
 use Rattle.book.proofs.room.Tie as tie
 
-sound-requires : tie.Need-sound-requires
-sound-requires c κs = search needs
+-- the function's entry, seen from where the walk's answer is known
+abbrev start-of : tie.After-enum-told → tie.Start
+start-of c = c .before .before .before .before
+
+ended : (c : tie.After-enum-told) → Descent.Ended (c .enum-told .given .0 .0) ≡ descent (start-of c .args .threads) (now (start-of c .args .counts))
+ended c = sym (c .enum-told .given .1) ∙ c .before .before .descend .ensures
 
 returns : tie.Need-returns
-returns c =
-    let s = c .before .before .before in
-    room-refused (s .args .threads) (now (s .args .counts)) (when-unsound _ _ (c .before .sound .ensures) (c .if1 .taken)) (s .args .wanted .0)
+returns c = room-refused _ _ (sym (c .enum-told2 .given .1) ∙ c .before .before .descend .ensures) _
 
 returns-2 : tie.Need-returns-2
-returns-2 c =
-    let s = c .before .before .before .before .before in
-    room-beyond (s .args .threads) (now (s .args .counts)) (when-sound _ _ (c .before .before .before .sound .ensures) (c .before .before .if1 .left)) (s .args .wanted .0) (c .if2 .taken)
-
-cast-calls-from : tie.Need-cast-calls-from
-cast-calls-from c = search needs
-
-calls-from-requires : tie.Need-calls-from-requires
-calls-from-requires c κs =
-    let s = c .before .before .before .before .before .before in
-    let site = accepted (s .args .threads) (now (s .args .counts)) (when-sound _ _ (c .before .before .before .before .sound .ensures) (c .before .before .before .if1 .left)) in
-    (omega (arith, site .most, c .before .if2 .left), site .long)
-
-sub-t8 : tie.Need-sub-t8
-sub-t8 c = search needs
-
-cast-t7 : tie.Need-cast-t7
-cast-t7 c = search needs
+returns-2 c = let at-end = c .before .before in room-beyond _ _ _ (ended at-end) _ (c .if1 .taken)
 
 sub-t9 : tie.Need-sub-t9
 sub-t9 c =
-    let s = c .before .before .before .before .before .before .before .before in
-    let site = accepted (s .args .threads) (now (s .args .counts)) (when-sound _ _ (c .before .before .before .before .before .before .sound .ensures) (c .before .before .before .before .before .if1 .left)) in
-    let law = lawful-at (s .args .threads) (now (s .args .counts)) (site .law) (s .args .wanted .0) (c .before .before .before .if2 .left) in
-    omega (arith, law, c .before .calls-from .ensures)
-
-cast-t10 : tie.Need-cast-t10
-cast-t10 c = search needs
+    let counted = c .before in
+    let below = counted .before .before in
+    let at-end = below .before .before in
+    room-fits _ _ _ (ended at-end) _ _ (below .if1 .left) (counted .calls-from .ensures)
 
 returns-3 : tie.Need-returns-3
-unfolding room
 returns-3 c =
-    let s = c .before .before .before .before .before .before .before .before in
-    ap (λ (n : ℕ). 0 ∷ (s .args .threads - s .args .wanted .0 - n) ∷ []) (c .before .calls-from .ensures)
-    ∙ room-below (s .args .threads) (now (s .args .counts)) (when-sound _ _ (c .before .before .before .before .before .before .sound .ensures) (c .before .before .before .before .before .if1 .left)) (s .args .wanted .0) (c .before .before .before .if2 .left)
+    let counted = c .before in
+    let below = counted .before .before in
+    let at-end = below .before .before in
+    room-below _ _ _ (ended at-end) _ _ (below .if1 .left) (counted .calls-from .ensures)
 
 pub room-spec : {M : Type 1} → statement M
 room-spec =
     tie.close
     (tie.spec
-    sound-requires
+    (λ c κs. search needs)
+    (λ c. search needs)
+    (λ c. search needs)
     returns
     returns-2
-    cast-calls-from
-    calls-from-requires
-    sub-t8
-    cast-t7
+    (λ c. search needs)
+    (λ c κs. search needs)
+    (λ c. search needs)
+    (λ c. search needs)
     sub-t9
-    cast-t10
+    (λ c. search needs)
     returns-3)

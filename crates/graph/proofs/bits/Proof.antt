@@ -3,6 +3,7 @@
 use Prim.Native.Nat.{_-_, _≤_}
 use native.Mathlib.Omega.{arith}
 use lib.ListN.{length}
+use borrow.Author.Needs.{needs}
 use Rattle.graph.proofs.StepLaws.{Cleaning, cleaning-none, cleaning-more, cleaning-all}
 use Rattle.graph.proofs.bits.Statement.{statement}
 use Rattle.graph.proofs.bits.Tie as tie
@@ -15,21 +16,6 @@ abbrev μ-loop : tie.MeasureT-loop
 
 loop-holds : tie.Need-loop-holds Inv-loop μ-loop
 loop-holds c = (cleaning-none (c .args .cells .now), omega arith)
-
-slice-read-cells : tie.Need-slice-read-cells Inv-loop μ-loop
-slice-read-cells c = omega arith
-
-cast-cells : tie.Need-cast-cells Inv-loop μ-loop
-cast-cells c = tt
-
-slice-write-cells : tie.Need-slice-write-cells Inv-loop μ-loop
-slice-write-cells c = omega arith
-
-add-x : tie.Need-add-x Inv-loop μ-loop
-add-x c = omega arith
-
-loop-less : tie.Need-loop-less Inv-loop μ-loop
-loop-less c = omega arith
 
 loop-again : tie.Need-loop-again Inv-loop μ-loop
 loop-again c =
@@ -49,11 +35,11 @@ bits-spec =
     Inv-loop
     μ-loop
     loop-holds
-    slice-read-cells
-    cast-cells
-    slice-write-cells
-    add-x
-    loop-less
+    (λ c. search needs)
+    (λ c. search needs)
+    (λ c. search needs)
+    (λ c. search needs)
+    (λ c. search needs)
     loop-again
     same-length
     returns)

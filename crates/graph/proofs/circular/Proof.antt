@@ -11,21 +11,10 @@ use Rattle.graph.proofs.PathLaws.{met-circle}
 use Rattle.graph.proofs.circular.Statement.{statement}
 use Rattle.graph.proofs.circular.Tie as tie
 
-reached-requires : tie.Need-reached-requires
-reached-requires c κs = search needs
-
-slice-aggregate-meets-back : tie.Need-slice-aggregate-meets-back
-slice-aggregate-meets-back c = search needs
-
-slice-aggregate-meets-back-2 : tie.Need-slice-aggregate-meets-back-2
-slice-aggregate-meets-back-2 c = search needs
-
-meets-back-requires : tie.Need-meets-back-requires
-meets-back-requires c κs = search needs
-
 returns : tie.Need-returns
 returns c =
-    let found = c .before .before .before .before .before in
+    let lent = c .before .before .before in
+    let found = lent .before .before in
     let args = found .before .args in
     let long : length (args .calls .cells) ≡ nodes * nodes = search needs in
     Iff·trans (c .meets-back .ensures) (met-circle (args .calls .cells) (args .steps .cells) (found .reached .result .cells) long (found .reached .ensures))
@@ -34,8 +23,8 @@ pub circular-spec : {M : Type 1} → statement M
 circular-spec =
     tie.close
     (tie.spec
-    reached-requires
-    slice-aggregate-meets-back
-    slice-aggregate-meets-back-2
-    meets-back-requires
+    (λ c κs. search needs)
+    (λ c. search needs)
+    (λ c. search needs)
+    (λ c κs. search needs)
     returns)

@@ -21,57 +21,33 @@ Inv-loop cells₀ k₀ cells k = Is cells (via (on cells₀) (down k)) × (lengt
 abbrev μ-loop : tie.MeasureT-loop
 μ-loop cells₀ k₀ cells k = nodes - k
 
-slice-aggregate-stays : tie.Need-slice-aggregate-stays Inv-loop μ-loop
-slice-aggregate-stays c = search needs
-
-stays-requires : tie.Need-stays-requires Inv-loop μ-loop
-stays-requires c κs = search needs
-
 loop-holds : tie.Need-loop-holds Inv-loop μ-loop
 loop-holds c =
-    (closing-none (c .before .before .before .before .args .steps .cells) (c .before .stays .last .0) (c .before .stays .ensures), omega (arith, c .before .stays .kept .0), omega arith)
-
-slice-aggregate-spread : tie.Need-slice-aggregate-spread Inv-loop μ-loop
-slice-aggregate-spread c = sym (c .before .before .loop .inv .1)
-
-slice-aggregate-spread-2 : tie.Need-slice-aggregate-spread-2 Inv-loop μ-loop
-slice-aggregate-spread-2 c = sym (c .before .before .before .loop .inv .1)
-
-slice-aggregate-spread-3 : tie.Need-slice-aggregate-spread-3 Inv-loop μ-loop
-slice-aggregate-spread-3 c = sym (c .before .before .before .before .loop .inv .1)
-
-spread-requires : tie.Need-spread-requires Inv-loop μ-loop
-spread-requires c κs = omega (arith, c .before .before .before .before .loop)
-
-add-k : tie.Need-add-k Inv-loop μ-loop
-add-k c = omega arith
-
-loop-less : tie.Need-loop-less Inv-loop μ-loop
-loop-less c = omega arith
+    let stays = c .before in
+    let steps = stays .before .before .before .args .steps .cells in
+    (closing-none steps (stays .stays .last .0) (stays .stays .ensures), omega (arith, stays .stays .kept .0), omega arith)
 
 loop-again : tie.Need-loop-again Inv-loop μ-loop
 loop-again c =
-    let at-loop = c .before .before .before .before .before .before in (
-      closing-more (on (at-loop .before .before .stays .last .0)) (at-loop .loop .cells) (c .before .spread .last .0) (at-loop .loop .k) (omega arith) (at-loop .loop .inv .0) (c .before .spread .ensures),
-      omega (arith, at-loop .loop .inv .1, c .before .spread .kept .0),
+    let spread = c .before in
+    let lent = spread .before .before .before in
+    let at-loop = lent .before .before in
+    let steps = on (at-loop .before .before .stays .last .0) in (
+      closing-more steps (at-loop .loop .cells) (spread .spread .last .0) (at-loop .loop .k) (omega arith) (at-loop .loop .inv .0) (spread .spread .ensures),
+      omega (arith, at-loop .loop .inv .1, spread .spread .kept .0),
       omega arith,
     )
-
-slice-aggregate-bits : tie.Need-slice-aggregate-bits Inv-loop μ-loop
-slice-aggregate-bits c = omega arith
-
-bits-requires : tie.Need-bits-requires Inv-loop μ-loop
-bits-requires c κs = tt
 
 returns : tie.Need-returns Inv-loop μ-loop
 returns c =
     let at-loop = c .before .before .before .before in
-    let steps = c .before .before .before .before .before .before .before .before .before .args .steps .cells in
-    let start = at-loop .before .before .stays .last .0 in
+    let stays = at-loop .before .before in
+    let steps = stays .before .before .before .args .steps .cells in
+    let start = stays .stays .last .0 in
     let all : at-loop .loop .k ≡ nodes = omega arith in
     let closed = subst (λ (k : ℕ). Is (at-loop .loop .cells) (via (on start) (down k))) all (at-loop .loop .inv .0) in
     tells (at-loop .loop .cells) (c .before .bits .last .0) (Reach (on steps)) (at-loop .loop .inv .1) (c .before .bits .ensures)
-    (closing-all steps start (at-loop .before .before .stays .ensures) (at-loop .loop .cells) closed)
+    (closing-all steps start (stays .stays .ensures) (at-loop .loop .cells) closed)
 
 pub closure-spec : {M : Type 1} → statement M
 closure-spec =
@@ -79,16 +55,16 @@ closure-spec =
     (tie.spec
     Inv-loop
     μ-loop
-    slice-aggregate-stays
-    stays-requires
+    (λ c. search needs)
+    (λ c κs. search needs)
     loop-holds
-    slice-aggregate-spread
-    slice-aggregate-spread-2
-    slice-aggregate-spread-3
-    spread-requires
-    add-k
-    loop-less
+    (λ c. sym (c .before .before .loop .inv .1))
+    (λ c. sym (c .before .before .before .loop .inv .1))
+    (λ c. sym (c .before .before .before .before .loop .inv .1))
+    (λ c κs. omega (arith, c .before .before .before .before .loop))
+    (λ c. search needs)
+    (λ c. search needs)
     loop-again
-    slice-aggregate-bits
-    bits-requires
+    (λ c. search needs)
+    (λ c κs. search needs)
     returns)

@@ -3,6 +3,7 @@
 use Prim.Native.Nat.{ℕ, _-_, _≤_}
 use mathlib.Core.Path.{_≡_, subst}
 use native.Mathlib.Omega.{arith}
+use borrow.Author.Needs.{needs}
 use Rattle.graph.specs.Steps.{Joined}
 use Rattle.graph.proofs.StepLaws.{joined-none, joined-more}
 use Rattle.graph.proofs.join.Statement.{statement}
@@ -17,35 +18,12 @@ abbrev μ-loop : tie.MeasureT-loop
 loop-holds : tie.Need-loop-holds Inv-loop μ-loop
 loop-holds c = (joined-none (c .args .to .now) (c .args .from .now) (c .args .at) (c .args .start), omega arith)
 
-add-to : tie.Need-add-to Inv-loop μ-loop
-add-to c = omega arith
-
-slice-read-to : tie.Need-slice-read-to Inv-loop μ-loop
-slice-read-to c = omega arith
-
-add-to-2 : tie.Need-add-to-2 Inv-loop μ-loop
-add-to-2 c = omega arith
-
-shared-slice-read-to : tie.Need-shared-slice-read-to Inv-loop μ-loop
-shared-slice-read-to c = omega arith
-
-add-to-3 : tie.Need-add-to-3 Inv-loop μ-loop
-add-to-3 c = omega arith
-
-slice-write-to : tie.Need-slice-write-to Inv-loop μ-loop
-slice-write-to c = omega arith
-
-add-j : tie.Need-add-j Inv-loop μ-loop
-add-j c = omega arith
-
-loop-less : tie.Need-loop-less Inv-loop μ-loop
-loop-less c = omega arith
-
 loop-again : tie.Need-loop-again Inv-loop μ-loop
 loop-again c =
     let at-loop = c .before .before .before in
     let args = at-loop .before .args in
-    (joined-more (args .to .now) (at-loop .loop .to) (args .from .now) (args .at) (args .start) (at-loop .loop .j) (omega arith) (at-loop .loop .inv .0), omega arith)
+    let j = at-loop .loop .j in
+    (joined-more (args .to .now) (at-loop .loop .to) (args .from .now) (args .at) (args .start) j (omega arith) (at-loop .loop .inv .0), omega arith)
 
 same-length : tie.Need-same-length Inv-loop μ-loop
 same-length c = c .before .loop .inv .0 .long
@@ -63,14 +41,14 @@ join-spec =
     Inv-loop
     μ-loop
     loop-holds
-    add-to
-    slice-read-to
-    add-to-2
-    shared-slice-read-to
-    add-to-3
-    slice-write-to
-    add-j
-    loop-less
+    (λ c. search needs)
+    (λ c. search needs)
+    (λ c. search needs)
+    (λ c. search needs)
+    (λ c. search needs)
+    (λ c. search needs)
+    (λ c. search needs)
+    (λ c. search needs)
     loop-again
     same-length
     returns)

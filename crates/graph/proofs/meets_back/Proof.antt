@@ -6,6 +6,7 @@ use mathlib.Core.Bool.{true, true≢false}
 use mathlib.Core.Logic.{⊎-elim}
 use native.Mathlib.Omega.{arith}
 use borrow.Author.Count.{below-more}
+use borrow.Author.Needs.{needs}
 use Rattle.ids.specs.Limits.{nodes}
 use Rattle.graph.specs.Tables.{lit}
 use Rattle.graph.proofs.StepLaws.{lit-yes, lit-no}
@@ -23,31 +24,14 @@ abbrev μ-loop : tie.MeasureT-loop
 loop-holds : tie.Need-loop-holds Inv-loop μ-loop
 loop-holds c = ((λ y h. absurd (omega arith)), omega arith)
 
-shared-slice-read-if1 : tie.Need-shared-slice-read-if1 Inv-loop μ-loop
-shared-slice-read-if1 c = omega arith
-
-mul-if2 : tie.Need-mul-if2 Inv-loop μ-loop
-mul-if2 c = omega arith
-
-add-if2 : tie.Need-add-if2 Inv-loop μ-loop
-add-if2 c = omega arith
-
-shared-slice-read-if2 : tie.Need-shared-slice-read-if2 Inv-loop μ-loop
-shared-slice-read-if2 c = omega arith
-
 returns : tie.Need-returns Inv-loop μ-loop
 returns c =
-    let at-loop = c .before .before .before .before .before in
+    let lit-edge = c .before .before in
+    let at-loop = lit-edge .before .before .before in
     let args = at-loop .before .args in (
-      (λ e. back-found (args .calls .now) (args .reach .now) (at-loop .loop .x) (omega arith) (lit-yes (c .before .before .if1 .taken)) (lit-yes (c .if2 .taken))),
+      (λ e. back-found (args .calls .now) (args .reach .now) (at-loop .loop .x) (omega arith) (lit-yes (lit-edge .if1 .taken)) (lit-yes (c .if2 .taken))),
       (λ m. refl),
     )
-
-add-x : tie.Need-add-x Inv-loop μ-loop
-add-x c = omega arith
-
-loop-less : tie.Need-loop-less Inv-loop μ-loop
-loop-less c = omega arith
 
 loop-again : tie.Need-loop-again Inv-loop μ-loop
 loop-again c =
@@ -73,12 +57,12 @@ meets-back-spec =
     Inv-loop
     μ-loop
     loop-holds
-    shared-slice-read-if1
-    mul-if2
-    add-if2
-    shared-slice-read-if2
+    (λ c. search needs)
+    (λ c. search needs)
+    (λ c. search needs)
+    (λ c. search needs)
     returns
-    add-x
-    loop-less
+    (λ c. search needs)
+    (λ c. search needs)
     loop-again
     returns-2)

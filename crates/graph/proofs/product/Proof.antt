@@ -18,38 +18,32 @@ Inv-loop by from cells₀ k₀ cells k = Is cells (across k (on by) (on from)) �
 abbrev μ-loop : tie.MeasureT-loop
 μ-loop by from cells₀ k₀ cells k = nodes - k
 
-empty-requires : tie.Need-empty-requires Inv-loop μ-loop
-empty-requires c κs = tt
+-- the function's entry, seen from the loop's start
+abbrev start-of : tie.After-cells Inv-loop μ-loop → tie.Start Inv-loop μ-loop
+start-of c = c .before .before .before .before
 
 loop-holds : tie.Need-loop-holds Inv-loop μ-loop
 loop-holds c =
-    let args = c .before .before .before .before .args in
+    let args = start-of c .args in
     (crossing-none (c .before .empty .result .cells) (on (args .by .now)) (on (args .from .now)) (c .before .empty .ensures), search needs, omega arith)
 
-slice-aggregate-spread : tie.Need-slice-aggregate-spread Inv-loop μ-loop
-slice-aggregate-spread c = omega arith
-
 spread-requires : tie.Need-spread-requires Inv-loop μ-loop
-spread-requires c κs = omega (arith, c .before .before .before .before .before .before .before)
-
-add-k : tie.Need-add-k Inv-loop μ-loop
-add-k c = omega arith
-
-loop-less : tie.Need-loop-less Inv-loop μ-loop
-loop-less c = omega arith
+spread-requires c κs = let at-loop = c .before .before in omega (arith, start-of (at-loop .before))
 
 loop-again : tie.Need-loop-again Inv-loop μ-loop
 loop-again c =
     let at-loop = c .before .before .before .before in
-    let args = at-loop .before .before .before .before .before .args in (
-      crossing-more (at-loop .loop .cells) (c .before .spread .last .0) (on (args .by .now)) (on (args .from .now)) (at-loop .loop .k) (at-loop .loop .inv .0) (c .before .spread .ensures),
+    let args = start-of (at-loop .before) .args in (
+      crossing-more (at-loop .loop .cells) (c .before .spread .last .0) (on (args .by .now)) (on (args .from .now)) (at-loop .loop .k)
+          (at-loop .loop .inv .0)
+          (c .before .spread .ensures),
       omega (arith, at-loop .loop .inv .1, c .before .spread .kept .0),
       omega arith,
     )
 
 returns : tie.Need-returns Inv-loop μ-loop
 returns c =
-    let args = c .before .before .before .before .before .before .args in
+    let args = start-of (c .before .before) .args in
     let all : c .before .loop .k ≡ nodes = omega arith in
     subst (λ (k : ℕ). Is (c .before .loop .cells) (across k (on (args .by .now)) (on (args .from .now)))) all (c .before .loop .inv .0)
 
@@ -59,11 +53,11 @@ product-spec =
     (tie.spec
     Inv-loop
     μ-loop
-    empty-requires
+    (λ c κs. search needs)
     loop-holds
-    slice-aggregate-spread
+    (λ c. search needs)
     spread-requires
-    add-k
-    loop-less
+    (λ c. search needs)
+    (λ c. search needs)
     loop-again
     returns)

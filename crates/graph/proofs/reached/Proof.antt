@@ -10,15 +10,6 @@ use Rattle.graph.proofs.PathLaws.{reached-either}
 use Rattle.graph.proofs.reached.Statement.{statement}
 use Rattle.graph.proofs.reached.Tie as tie
 
-slice-aggregate-join : tie.Need-slice-aggregate-join
-slice-aggregate-join c = search needs
-
-slice-aggregate-join-2 : tie.Need-slice-aggregate-join-2
-slice-aggregate-join-2 c = search needs
-
-mul-join : tie.Need-mul-join
-mul-join c = search needs
-
 join-requires : tie.Need-join-requires
 join-requires c κs =
     let args = c .before .before .before .before .args in
@@ -28,24 +19,24 @@ join-requires c κs =
     let steps : nodes * nodes ≤ length (args .steps .cells) = omega arith in
     (calls, steps)
 
-closure-requires : tie.Need-closure-requires
-closure-requires c κs = search needs
-
 returns : tie.Need-returns
 returns c =
     let joined = c .before .before in
-    let args = joined .before .before .before .before .before .args in
+    let lent = joined .before .before .before in
+    let args = lent .before .before .args in
     let long-calls : length (args .calls .cells) ≡ nodes * nodes = search needs in
     let long-steps : length (args .steps .cells) ≡ nodes * nodes = search needs in
-    reached-either (args .calls .cells) (args .steps .cells) (joined .join .last .0) (c .closure .result .cells) long-calls long-steps (joined .join .ensures) (c .closure .ensures)
+    reached-either (args .calls .cells) (args .steps .cells) (joined .join .last .0) (c .closure .result .cells) long-calls long-steps
+    (joined .join .ensures)
+    (c .closure .ensures)
 
 pub reached-spec : {M : Type 1} → statement M
 reached-spec =
     tie.close
     (tie.spec
-    slice-aggregate-join
-    slice-aggregate-join-2
-    mul-join
+    (λ c. search needs)
+    (λ c. search needs)
+    (λ c. search needs)
     join-requires
-    closure-requires
+    (λ c κs. search needs)
     returns)

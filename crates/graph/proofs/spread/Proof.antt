@@ -2,10 +2,11 @@
 -- of k to that of n, or skips it where n does not lead to k.
 -- Assumes nothing.
 use Prim.Native.Nat.{ℕ, _*_, _-_, _<_, _≤_}
-use mathlib.Core.Path.{_≡_, sym, subst}
+use mathlib.Core.Path.{sym, subst}
 use mathlib.Core.List.{List}
 use mathlib.Core.Logic.{⊎-elim}
 use native.Mathlib.Omega.{arith}
+use borrow.Author.Needs.{needs}
 use Rattle.ids.specs.Limits.{nodes}
 use Rattle.graph.specs.Steps.{Joined}
 use Rattle.graph.proofs.StepLaws.{lit-yes, lit-no, Spreading, spreading-none, spreading-skip, spreading-join}
@@ -23,29 +24,8 @@ loop-holds c =
     let args = c .before .before .before .args in
     (spreading-none (args .to .now) (args .by .now) (args .from .now) (args .k), omega arith)
 
-mul-if1 : tie.Need-mul-if1 Inv-loop μ-loop
-mul-if1 c = omega arith
-
-add-if1 : tie.Need-add-if1 Inv-loop μ-loop
-add-if1 c = omega arith
-
-shared-slice-read-if1 : tie.Need-shared-slice-read-if1 Inv-loop μ-loop
-shared-slice-read-if1 c = omega arith
-
-mul-join : tie.Need-mul-join Inv-loop μ-loop
-mul-join c = omega arith
-
-mul-join-2 : tie.Need-mul-join-2 Inv-loop μ-loop
-mul-join-2 c = omega arith
-
 join-requires : tie.Need-join-requires Inv-loop μ-loop
 join-requires c κs = omega (arith, c .before .before .before .before .loop .inv .0 .long)
-
-add-n : tie.Need-add-n Inv-loop μ-loop
-add-n c = omega arith
-
-loop-less : tie.Need-loop-less Inv-loop μ-loop
-loop-less c = omega arith
 
 loop-again : tie.Need-loop-again Inv-loop μ-loop
 loop-again c =
@@ -71,10 +51,8 @@ same-length c = c .before .loop .inv .0 .long
 
 returns : tie.Need-returns Inv-loop μ-loop
 returns c =
-    let args = c .before .before .before .before .before .args in
-    let all : c .before .loop .n ≡ nodes = omega arith in
-    let whole = subst (λ (n : ℕ). Spreading (args .to .now) (c .before .loop .to) (args .by .now) (args .from .now) (args .k) n) all (c .before .loop .inv .0) in
-    λ n m hn hm. whole .done n hn m hm
+    let at-loop = c .before in
+    λ n m hn hm. at-loop .loop .inv .0 .done n (omega arith) m hm
 
 pub spread-spec : {M : Type 1} → statement M
 spread-spec =
@@ -83,14 +61,14 @@ spread-spec =
     Inv-loop
     μ-loop
     loop-holds
-    mul-if1
-    add-if1
-    shared-slice-read-if1
-    mul-join
-    mul-join-2
+    (λ c. search needs)
+    (λ c. search needs)
+    (λ c. search needs)
+    (λ c. search needs)
+    (λ c. search needs)
     join-requires
-    add-n
-    loop-less
+    (λ c. search needs)
+    (λ c. search needs)
     loop-again
     same-length
     returns)

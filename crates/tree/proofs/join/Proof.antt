@@ -1,121 +1,88 @@
--- `tree::join` meets its contract. The loop's invariant: the places from `first` up to n are made from their halves, which lie at or above
--- 2 * first, so that no store has touched them. Assumes nothing.
-use Prim.Native.Nat.{ℕ, _+_, _-_, _*_, _≤_, _<_, min}
+-- `tree::join` meets its contract. The loop's invariant: the places from `first` up to n are made from their halves, which lie at or behind n,
+-- so that no store has touched them. Assumes nothing.
+use Prim.Native.Nat.{ℕ, _+_, _-_, _*_, _≤_, min}
 use native.Mathlib.Omega.{arith}
 use mathlib.Core.Path.{_≡_, refl, ap₂, _∙_}
+use mathlib.Core.List.{List}
 use lib.ListN.{getD}
 use denote.Ref.{now}
+use borrow.Author.Needs.{needs}
 use Rattle.lists.specs.Fill.{Filled}
 use Rattle.lists.proofs.FillLaws.{filled-none, filled-more, filled-to}
 use Rattle.tree.specs.Places.{pair-size, pair-slack}
 use Rattle.tree.proofs.join.Statement.{statement}
 use Rattle.tree.proofs.join.Tie as tie
 
+record Made (sizes₀ slacks₀ sizes slacks : List ℕ) (first end n : ℕ) : Type 0 where
+  from : first ≤ n
+  to : n ≤ end
+  sized : Filled (pair-size sizes₀) first n sizes₀ sizes
+  slacked : Filled (pair-slack sizes₀ slacks₀) first n slacks₀ slacks
+
 abbrev Inv-loop : tie.InvT-loop
-Inv-loop sizes₀ slacks₀ first last n₀ sizes slacks n =
-    (first ≤ n)
-    × (n ≤ last + 1)
-    × Filled (pair-size sizes₀) first n sizes₀ sizes
-    × Filled (pair-slack sizes₀ slacks₀) first n slacks₀ slacks
+Inv-loop sizes₀ slacks₀ first end n₀ sizes slacks n = Made sizes₀ slacks₀ sizes slacks first end n
 
 abbrev μ-loop : tie.MeasureT-loop
-μ-loop sizes₀ slacks₀ first last n₀ sizes slacks n = last + 1 - n
+μ-loop sizes₀ slacks₀ first end n₀ sizes slacks n = end - n
+
+-- the function's entry, seen from the loop's start of a turn
+abbrev start-of : tie.In-loop Inv-loop μ-loop → tie.Start Inv-loop μ-loop
+start-of c = c .before .before .before .before
 
 -- what the halves of place n held at entry they hold still
-kept : (c : tie.In-loop Inv-loop μ-loop) (m : ℕ)
-    → c .before .loop .n ≤ m
-    → (getD (c .before .loop .sizes) m 0 ≡ getD (now (c .before .before .before .before .args .sizes)) m 0)
-    × (getD (c .before .loop .slacks) m 0 ≡ getD (now (c .before .before .before .before .args .slacks)) m 0)
-kept c m h =
-    let inv = c .before .loop .inv in
-    (inv .2 .outside m (λ p q. omega arith), inv .3 .outside m (λ p q. omega arith))
+record Kept (sizes₀ slacks₀ sizes slacks : List ℕ) (n : ℕ) : Type 0 where
+  left-size : getD sizes (2 * n) 0 ≡ getD sizes₀ (2 * n) 0
+  right-size : getD sizes (2 * n + 1) 0 ≡ getD sizes₀ (2 * n + 1) 0
+  left-slack : getD slacks (2 * n) 0 ≡ getD slacks₀ (2 * n) 0
+  right-slack : getD slacks (2 * n + 1) 0 ≡ getD slacks₀ (2 * n + 1) 0
 
--- and they can be joined
-joinable : (c : tie.In-loop Inv-loop μ-loop)
-    → (pair-size (c .before .loop .sizes) (c .before .loop .n) < 256)
-    × (getD (c .before .loop .sizes) (2 * c .before .loop .n + 1) 0 ≤ getD (c .before .loop .slacks) (2 * c .before .loop .n) 0)
-joinable c =
+kept : (c : tie.In-loop Inv-loop μ-loop)
+    → Kept (now (start-of c .args .sizes)) (now (start-of c .args .slacks)) (c .before .loop .sizes) (c .before .loop .slacks) (c .before .loop .n)
+kept c =
+    let made = c .before .loop .inv in
     let n = c .before .loop .n in
-    let j = c .before .before .before .before .pre .1 n (omega arith) (omega arith) in
-    let left = kept c (2 * n) (omega arith) in
-    let right = kept c (2 * n + 1) (omega arith) in
-    (omega (arith, j .0, left .0, right .0), omega (arith, j .1, left .1, right .0))
+    record {
+      left-size = made .sized .outside (2 * n) (λ p q. omega arith);
+      right-size = made .sized .outside (2 * n + 1) (λ p q. omega arith);
+      left-slack = made .slacked .outside (2 * n) (λ p q. omega arith);
+      right-slack = made .slacked .outside (2 * n + 1) (λ p q. omega arith);
+    }
 
 loop-holds : tie.Need-loop-holds Inv-loop μ-loop
-loop-holds c = (omega arith, omega arith, filled-none _ _ _, filled-none _ _ _)
-
-mul-right : tie.Need-mul-right Inv-loop μ-loop
-mul-right c = omega arith
-
-add-right : tie.Need-add-right Inv-loop μ-loop
-add-right c = omega arith
-
-slice-read-right : tie.Need-slice-read-right Inv-loop μ-loop
-slice-read-right c = omega arith
-
-mul-sizes : tie.Need-mul-sizes Inv-loop μ-loop
-mul-sizes c = omega arith
-
-slice-read-sizes : tie.Need-slice-read-sizes Inv-loop μ-loop
-slice-read-sizes c = omega arith
+loop-holds c = record { from = omega arith; to = omega arith; sized = filled-none _ _ _; slacked = filled-none _ _ _ }
 
 add-sizes : tie.Need-add-sizes Inv-loop μ-loop
-add-sizes c = record { fits = joinable (c .before .before) .0 }
-
-slice-write-sizes : tie.Need-slice-write-sizes Inv-loop μ-loop
-slice-write-sizes c = omega arith
-
-mul-smaller : tie.Need-mul-smaller Inv-loop μ-loop
-mul-smaller c = omega arith
-
-add-smaller : tie.Need-add-smaller Inv-loop μ-loop
-add-smaller c = omega arith
-
-slice-read-smaller : tie.Need-slice-read-smaller Inv-loop μ-loop
-slice-read-smaller c = omega arith
-
-mul-smaller-2 : tie.Need-mul-smaller-2 Inv-loop μ-loop
-mul-smaller-2 c = omega arith
-
-slice-read-smaller-2 : tie.Need-slice-read-smaller-2 Inv-loop μ-loop
-slice-read-smaller-2 c = omega arith
+add-sizes c =
+    let here = c .before .before in
+    let n = here .before .loop .n in
+    let halves = kept here in
+    record { fits = omega (arith, start-of here .pre .small n (omega arith) (omega arith), halves .left-size, halves .right-size) }
 
 sub-smaller : tie.Need-sub-smaller Inv-loop μ-loop
-sub-smaller c = joinable (c .before .before .before .before) .1
-
-smaller-requires : tie.Need-smaller-requires Inv-loop μ-loop
-smaller-requires c κs = tt
-
-slice-write-slacks : tie.Need-slice-write-slacks Inv-loop μ-loop
-slice-write-slacks c = omega arith
-
-add-n : tie.Need-add-n Inv-loop μ-loop
-add-n c = omega arith
-
-loop-less : tie.Need-loop-less Inv-loop μ-loop
-loop-less c = omega arith
+sub-smaller c =
+    let here = c .before .before .before .before in
+    let n = here .before .loop .n in
+    let halves = kept here in
+    omega (arith, start-of here .pre .covered n (omega arith) (omega arith), halves .left-slack, halves .right-size)
 
 loop-again : tie.Need-loop-again Inv-loop μ-loop
 loop-again c =
-    let here = c .before .before .before .before .before in
-    let inv = here .before .loop .inv in
-    let n = here .before .loop .n in
-    let left = kept here (2 * n) (omega arith) in
-    let right = kept here (2 * n + 1) (omega arith) in (
-      omega arith,
-      omega arith,
-      filled-more _ _ n (n + 1) _ _ _ refl (inv .0) (omega arith) (ap₂ _+_ (left .0) (right .0)) (inv .2),
-      filled-more _ _ n (n + 1) _ _ _ refl (inv .0) (omega arith) (c .smaller .ensures ∙ ap₂ min (right .1) (ap₂ _-_ (left .1) (right .0))) (inv .3),
-    )
-
-same-length : tie.Need-same-length Inv-loop μ-loop
-same-length c = c .before .loop .inv .2 .long
-
-same-length-2 : tie.Need-same-length-2 Inv-loop μ-loop
-same-length-2 c = c .before .loop .inv .3 .long
+    let stored = c .before .before .before in
+    let here = stored .before .before in
+    let made = here .before .loop .inv in
+    let halves = kept here in
+    record {
+      from = omega arith;
+      to = omega arith;
+      sized = filled-more _ _ _ _ _ _ _ refl (made .from) (omega arith) (ap₂ _+_ (halves .left-size) (halves .right-size)) (made .sized);
+      slacked =
+          filled-more _ _ _ _ _ _ _ refl (made .from) (omega arith)
+          (c .smaller .ensures ∙ ap₂ min (halves .right-slack) (ap₂ _-_ (halves .left-slack) (halves .right-size)))
+          (made .slacked);
+    }
 
 returns : tie.Need-returns Inv-loop μ-loop
-returns c = (filled-to (omega arith) (c .before .loop .inv .2), filled-to (omega arith) (c .before .loop .inv .3))
+returns c = let made = c .before .loop .inv in (filled-to (omega arith) (made .sized), filled-to (omega arith) (made .slacked))
 
 pub join-spec : {M : Type 1} → statement M
 join-spec =
@@ -124,24 +91,24 @@ join-spec =
     Inv-loop
     μ-loop
     loop-holds
-    mul-right
-    add-right
-    slice-read-right
-    mul-sizes
-    slice-read-sizes
+    (λ c. search needs)
+    (λ c. search needs)
+    (λ c. search needs)
+    (λ c. search needs)
+    (λ c. search needs)
     add-sizes
-    slice-write-sizes
-    mul-smaller
-    add-smaller
-    slice-read-smaller
-    mul-smaller-2
-    slice-read-smaller-2
+    (λ c. search needs)
+    (λ c. search needs)
+    (λ c. search needs)
+    (λ c. search needs)
+    (λ c. search needs)
+    (λ c. search needs)
     sub-smaller
-    smaller-requires
-    slice-write-slacks
-    add-n
-    loop-less
+    (λ c κs. search needs)
+    (λ c. search needs)
+    (λ c. search needs)
+    (λ c. search needs)
     loop-again
-    same-length
-    same-length-2
+    (λ c. c .before .loop .inv .sized .long)
+    (λ c. c .before .loop .inv .slacked .long)
     returns)

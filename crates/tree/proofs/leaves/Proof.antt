@@ -1,79 +1,60 @@
--- `tree::leaves` meets its contract. The loop's invariant: the leaves of the levels below k are set, and `left` is the threads less k.
--- Assumes nothing.
+-- `tree::leaves` meets its contract. The loop's invariant: the leaves of the levels below k are set, and `left` is what level k could have at
+-- most, as it is stored. Assumes nothing.
 use Prim.Native.Nat.{ℕ, _+_, _-_, _≤_}
 use native.Mathlib.Omega.{arith}
 use mathlib.Core.Path.{_≡_, ap}
+use mathlib.Core.List.{List}
 use denote.Ref.{now}
 use lib.ListN.{getD}
+use borrow.Author.Needs.{needs}
+use Rattle.ids.specs.Limits.{most-threads}
 use Rattle.lists.specs.Fill.{Filled}
 use Rattle.lists.proofs.FillLaws.{filled-none, filled-more, filled-to}
-use Rattle.tree.specs.Places.{leaf-size, leaf-slack}
+use Rattle.tree.specs.Places.{no-slack, leaf-size, leaf-slack}
+use Rattle.tree.proofs.StoredLaws.{count-most}
 use Rattle.tree.proofs.leaves.Statement.{statement}
 use Rattle.tree.proofs.leaves.Tie as tie
 
+record Set (T : ℕ) (a sizes₀ slacks₀ sizes slacks : List ℕ) (left k : ℕ) : Type 0 where
+  below : k ≤ T
+  left-is : left + k ≡ no-slack + T
+  sized : Filled (leaf-size a) most-threads (most-threads + k) sizes₀ sizes
+  slacked : Filled (leaf-slack T a) most-threads (most-threads + k) slacks₀ slacks
+
 abbrev Inv-loop : tie.InvT-loop
-Inv-loop threads counts sizes₀ slacks₀ end left₀ k₀ sizes slacks left k =
-    (k ≤ threads)
-    × (left + k ≡ threads)
-    × Filled (leaf-size counts) 64 (64 + k) sizes₀ sizes
-    × Filled (leaf-slack threads counts) 64 (64 + k) slacks₀ slacks
+Inv-loop threads counts sizes₀ slacks₀ left₀ k₀ sizes slacks left k = Set threads counts sizes₀ slacks₀ sizes slacks left k
 
 abbrev μ-loop : tie.MeasureT-loop
-μ-loop threads counts sizes₀ slacks₀ end left₀ k₀ sizes slacks left k = threads - k
+μ-loop threads counts sizes₀ slacks₀ left₀ k₀ sizes slacks left k = threads - k
 
 loop-holds : tie.Need-loop-holds Inv-loop μ-loop
-loop-holds c = (omega arith, omega arith, filled-none _ 64 _, filled-none _ 64 _)
-
-shared-slice-read-count : tie.Need-shared-slice-read-count Inv-loop μ-loop
-shared-slice-read-count c = omega arith
-
-add-sizes : tie.Need-add-sizes Inv-loop μ-loop
-add-sizes c = omega arith
-
-slice-write-sizes : tie.Need-slice-write-sizes Inv-loop μ-loop
-slice-write-sizes c = omega arith
+loop-holds c = record { below = omega arith; left-is = omega arith; sized = filled-none _ _ _; slacked = filled-none _ _ _ }
 
 sub-slacks : tie.Need-sub-slacks Inv-loop μ-loop
-sub-slacks c = omega (arith, c .before .before .before .pre .1 (c .before .before .loop .k) (omega arith))
-
-add-slacks : tie.Need-add-slacks Inv-loop μ-loop
-add-slacks c = omega arith
-
-slice-write-slacks : tie.Need-slice-write-slacks Inv-loop μ-loop
-slice-write-slacks c = omega arith
-
-sub-left : tie.Need-sub-left Inv-loop μ-loop
-sub-left c = omega arith
-
-add-k : tie.Need-add-k Inv-loop μ-loop
-add-k c = omega arith
-
-loop-less : tie.Need-loop-less Inv-loop μ-loop
-loop-less c = omega arith
+sub-slacks c =
+    let at-loop = c .before .before in
+    let start = at-loop .before in
+    omega (arith, count-most (start .args .threads) (now (start .args .counts)) (start .pre .0) (at-loop .loop .k))
 
 loop-again : tie.Need-loop-again Inv-loop μ-loop
 loop-again c =
-    let start = c .before .before .before in
+    let at-loop = c .before .before in
+    let start = at-loop .before in
     let a = now (start .args .counts) in
-    let k = c .before .before .loop .k in
-    let at : k ≡ 64 + k - 64 = omega arith in
-    let same = ap (λ (m : ℕ). getD a m 0) at in
-    let fits = start .pre .1 k (omega arith) in (
-      omega arith,
-      omega arith,
-      filled-more (leaf-size a) 64 (64 + k) (64 + (k + 1)) _ _ _ (omega arith) (omega arith) (omega arith) same (c .before .before .loop .inv .2),
-      filled-more (leaf-slack (start .args .threads) a) 64 (64 + k) (64 + (k + 1)) _ _ _ (omega arith) (omega arith) (omega arith) (omega arith)
-          (c .before .before .loop .inv .3),
-    )
-
-same-length : tie.Need-same-length Inv-loop μ-loop
-same-length c = c .before .loop .inv .2 .long
-
-same-length-2 : tie.Need-same-length-2 Inv-loop μ-loop
-same-length-2 c = c .before .loop .inv .3 .long
+    let k = at-loop .loop .k in
+    let set = at-loop .loop .inv in
+    let next : most-threads + (k + 1) ≡ most-threads + k + 1 = omega arith in
+    let place : k ≡ most-threads + k - most-threads = omega arith in
+    let same = ap (λ (m : ℕ). getD a m 0) place in
+    record {
+      below = omega arith;
+      left-is = omega arith;
+      sized = filled-more _ most-threads (most-threads + k) _ _ _ _ next (omega arith) (omega arith) same (set .sized);
+      slacked = filled-more _ most-threads (most-threads + k) _ _ _ _ next (omega arith) (omega arith) (omega arith) (set .slacked);
+    }
 
 returns : tie.Need-returns Inv-loop μ-loop
-returns c = (filled-to (omega arith) (c .before .loop .inv .2), filled-to (omega arith) (c .before .loop .inv .3))
+returns c = let set = c .before .loop .inv in (filled-to (omega arith) (set .sized), filled-to (omega arith) (set .slacked))
 
 pub leaves-spec : {M : Type 1} → statement M
 leaves-spec =
@@ -81,17 +62,19 @@ leaves-spec =
     (tie.spec
     Inv-loop
     μ-loop
+    (λ c. search needs)
+    (λ c. search needs)
     loop-holds
-    shared-slice-read-count
-    add-sizes
-    slice-write-sizes
+    (λ c. search needs)
+    (λ c. search needs)
+    (λ c. search needs)
     sub-slacks
-    add-slacks
-    slice-write-slacks
-    sub-left
-    add-k
-    loop-less
+    (λ c. search needs)
+    (λ c. search needs)
+    (λ c. search needs)
+    (λ c. search needs)
+    (λ c. search needs)
     loop-again
-    same-length
-    same-length-2
+    (λ c. c .before .loop .inv .sized .long)
+    (λ c. c .before .loop .inv .slacked .long)
     returns)
