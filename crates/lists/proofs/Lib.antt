@@ -1,2 +1,3 @@
 pub mod CountLaws
 pub mod FillLaws
+pub mod PickLaws

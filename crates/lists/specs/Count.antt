@@ -1,6 +1,6 @@
 -- Tests over the numbers below a bound, and sums of a list. Assumes nothing.
 use Prim.Native.Nat.{ℕ, zero, suc, _+_}
-use mathlib.Core.Bool.{Bool, true, _&&_, cond}
+use mathlib.Core.Bool.{Bool, true, false, _&&_, cond}
 use mathlib.Core.List.{List, [], _∷_}
 
 -- the sum of a list
@@ -17,3 +17,8 @@ every (suc n) f = every n f && f n
 abbrev pub first : ℕ → (ℕ → Bool) → ℕ
 first zero f = 0
 first (suc n) f = cond (f 0) 0 (suc (first n (λ k. f (suc k))))
+
+-- 1 for a test that is passed, else 0
+abbrev pub one : Bool → ℕ
+one true = 1
+one false = 0

@@ -11,3 +11,4 @@ pub mod PlanLaws
 pub mod PlanValueLaws
 pub mod PlanFaultLaws
 pub mod LevelSheet
+pub mod ProgramCase

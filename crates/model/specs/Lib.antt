@@ -12,3 +12,9 @@ pub mod Records
 pub mod PlanValue
 pub mod PlanFault
 pub mod LevelSheet
+pub mod Net
+pub mod Command
+pub mod NetRules
+pub mod Text
+pub mod Transcript
+pub mod ProgramCase
