@@ -13,6 +13,10 @@ use Rattle.lists.specs.Count.{one}
 use Rattle.lists.specs.Pick.{count, any, all, found, without, changed, picked}
 use Rattle.lists.proofs.CountLaws.{never-both, and-left, and-right, and-both}
 
+pub one-most : (b : Bool) → one b ≤ 1
+one-most true = omega arith
+one-most false = omega arith
+
 module _ {A : Type 0} where
   -- One entry more, at the end
 

@@ -11,4 +11,10 @@ pub mod PlanLaws
 pub mod PlanValueLaws
 pub mod PlanFaultLaws
 pub mod LevelSheet
+pub mod PlaceLaws
+pub mod CountsLaws
+pub mod AdmitLaws
+pub mod FirmLaws
+pub mod SettledLaws
+pub mod StepLaws
 pub mod ProgramCase

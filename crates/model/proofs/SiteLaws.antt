@@ -9,8 +9,9 @@ use mathlib.Core.Bool.{true, false, not, _||_}
 use mathlib.Core.List.{List}
 use lib.ListN.{length, getD, length-set}
 use lib.Dec.{leb, ltb, eqb}
-use borrow.Author.Tests.{leb-true, le-leb, ltb-false, eqb-true, eqb-false, eq-eqb}
+use borrow.Author.Tests.{leb-true, le-leb, lt-leb, ltb-false, eqb-true, eqb-false, eq-eqb}
 use Rattle.lists.proofs.CountLaws.{every-at, every-all, sum-drop-step, sum-drop-end, sum-drop-raised, sum-drop-kept, lt-or-ge, or-left, or-right, not-false-true}
+use Rattle.lists.specs.Count.{one}
 use Rattle.model.specs.Site.{A, lawful, raised, full, refused}
 use Rattle.ids.specs.Limits.{most-threads}
 
@@ -109,3 +110,11 @@ level-empty T a k within h = omega (arith, A-down a T k h)
 pub level-most : (T : ℕ) (a : List ℕ) (k : ℕ) → A a T ≡ 0 → lawful T a ≡ true → A a k ≤ T
 level-most T a k within law =
     ⊎-elim (λ (p : k < T). omega (arith, lawful-at T a law k p)) (λ (p : T ≤ k). omega (arith, level-empty T a k within p)) (lt-or-ge k T)
+
+-- one call more of level i is one more at each level up to i
+pub A-one : (a : List ℕ) (i k : ℕ) → i < length a → A (raised a i) k ≡ A a k + one (leb k i)
+A-one a i k h =
+    ⊎-elim
+    (λ (p : i < k). omega (arith, A-kept a i k p, ap one (lt-leb k i p)))
+    (λ (p : k ≤ i). omega (arith, A-raised a i k h p, ap one (le-leb k i p)))
+    (lt-or-ge i k)
