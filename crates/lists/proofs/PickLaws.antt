@@ -9,6 +9,8 @@ use mathlib.Core.Bool.{Bool, true, false, not, _&&_, _||_, cond}
 use mathlib.Core.List.{List, [], _∷_, _++_, List·Memᴰ, List·Memᴰ·head, List·Memᴰ·tail, List·Memᴰ·not-nil, List·Memᴰ·cases-cons}
 use mathlib.Core.Option.{Option, none, some}
 use lib.ListN.{length}
+use lib.Dec.{ltb}
+use borrow.Author.Tests.{lt-ltb}
 use Rattle.lists.specs.Count.{one}
 use Rattle.lists.specs.Pick.{count, any, all, found, without, changed, picked}
 use Rattle.lists.proofs.CountLaws.{never-both, and-left, and-right, and-both}
@@ -326,7 +328,40 @@ module _ {A : Type 0} where
       go true s false t ih = rw (s, t, ih)
       go false s c t ih = rw s ih
 
+  -- and picking by a test that passes neither what is changed nor what becomes of it
+  pub picked-apart : (h : A → A) (f g : A → Bool) (xs : List A) → ((x : A) → g (h x) ≡ false) → ((x : A) → f x ≡ true → g x ≡ false)
+      → picked g (changed h f xs) ≡ picked g xs
+  unfolding picked changed
+  picked-apart h f g [] gone apart = refl
+  picked-apart h f g (x ∷ xs) gone apart = go (f x) refl (picked-apart h f g xs gone apart)
+    where
+      go : (b : Bool) → f x ≡ b → picked g (changed h f xs) ≡ picked g xs
+          → picked g (cond b (h x ∷ xs) (x ∷ changed h f xs)) ≡ cond (g x) (x ∷ picked g xs) (picked g xs)
+      go true t ih = rw (gone x, apart x t)
+      go false t ih = rw ih
+
+  -- what is found at the end of a list, where nothing was found before
+  pub found-last : (f : A → Bool) (xs : List A) (y : A) → found f xs ≡ none → found f (xs ++ (y ∷ [])) ≡ cond (f y) (some y) none
+  unfolding found
+  found-last f [] y e = refl
+  found-last f (x ∷ xs) y e = go (f x) e (found-last f xs y)
+    where
+      go : (b : Bool) → cond b (some x) (found f xs) ≡ none → (found f xs ≡ none → found f (xs ++ (y ∷ [])) ≡ cond (f y) (some y) none)
+          → cond b (some x) (found f (xs ++ (y ∷ []))) ≡ cond (f y) (some y) none
+      go true g ih = let z : _≡_ {A = ℕ} 0 1 = cc in absurd (omega arith)
+      go false g ih = ih g
+
   -- Any and all
+
+  -- any entry passes where one is counted
+  pub any-counted : (f : A → Bool) (xs : List A) → any f xs ≡ ltb 0 (count f xs)
+  unfolding any count
+  any-counted f [] = refl
+  any-counted f (x ∷ xs) = go (f x) (any-counted f xs)
+    where
+      go : (b : Bool) → any f xs ≡ ltb 0 (count f xs) → (b || any f xs) ≡ ltb 0 (one b + count f xs)
+      go true ih = sym (lt-ltb 0 (1 + count f xs) (omega arith))
+      go false ih = let same : count f xs ≡ 0 + count f xs = omega arith in ih ∙ ap (ltb 0) same
 
   pub any-some : (f : A → Bool) (xs : List A) → any f xs ≡ true → (y : A) × List·Memᴰ y xs × (f y ≡ true)
   unfolding any
@@ -375,6 +410,18 @@ module _ {A : Type 0} where
           (λ j. let w = ih j in (List·Memᴰ·tail (w .0), w .1))
           (List·Memᴰ·cases-cons i)
       go false t i ih = let w = ih i in (List·Memᴰ·tail (w .0), w .1)
+
+  pub all-picked : (f : A → Bool) (xs : List A) (y : A) → List·Memᴰ y xs → f y ≡ true → List·Memᴰ y (picked f xs)
+  unfolding picked
+  all-picked f [] y m t = m
+  all-picked f (x ∷ xs) y m t = go (f x) refl (List·Memᴰ·cases-cons m) (λ i. all-picked f xs y i t)
+    where
+      go : (b : Bool) → f x ≡ b → (y ≡ x) ⊎ List·Memᴰ y xs → (List·Memᴰ y xs → List·Memᴰ y (picked f xs))
+          → List·Memᴰ y (cond b (x ∷ picked f xs) (picked f xs))
+      go true e (inl same) ih = List·Memᴰ·head same
+      go true e (inr i) ih = List·Memᴰ·tail (ih i)
+      go false e (inl same) ih = absurd (never-both t (ap f same ∙ e))
+      go false e (inr i) ih = ih i
 
   pub count-picked : (f g : A → Bool) (xs : List A) → count g (picked f xs) ≡ count (λ x. f x && g x) xs
   unfolding picked count

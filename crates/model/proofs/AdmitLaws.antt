@@ -89,8 +89,8 @@ module _ (rs : List Record) (pass : passes six rs ≡ true) (cs : List Call) (la
     blocker n known e =
         let s = site-of rs n in
         let w =
-                B (rule s) (rule-sound s) (threads rs s) (counts rs cs s) (level-of rs n) (level-below-threads rs pass n known) (law s) (within s)
-                (blocked n known e)
+        B (rule s) (rule-sound s) (threads rs s) (counts rs cs s) (level-of rs n) (level-below-threads rs pass n known) (law s) (within s)
+        (blocked n known e)
         in
         let v = some-counted (of-level rs s (w .0)) cs (omega (arith, w .2, counts-at rs s pass cs (w .0))) in
         let c = v .0 in

@@ -17,4 +17,8 @@ pub mod AdmitLaws
 pub mod FirmLaws
 pub mod SettledLaws
 pub mod StepLaws
+pub mod RankLaws
+pub mod FreeLaws
+pub mod OrderLaws
+pub mod Demands
 pub mod ProgramCase

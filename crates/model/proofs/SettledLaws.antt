@@ -135,7 +135,7 @@ module _ (rs : List Record) (cs : List Call) (f : Firm rs cs) (settled : Settled
       go true q =
           let quiet = found-none (may-wake rs left here) left e c m in
           let loud : (eqb (site-of rs (c .node)) here && not (c .active) && admissible rs left (c .node)) ≡ true =
-                  rw (eq-eqb (site-of rs (c .node)) here same, w, q)
+          rw (eq-eqb (site-of rs (c .node)) here same, w, q)
           in
           absurd (never-both loud quiet)
       go false q = refl
@@ -151,8 +151,12 @@ module _ (rs : List Record) (cs : List Call) (f : Firm rs cs) (settled : Settled
       where
         go : (b : Bool) → A (more b (counts rs left here) (level-of rs (gone .node))) k ≤ A (counts rs left here) k + 1
         go true =
-            omega (arith, A-one (counts rs left here) (level-of rs (gone .node)) k
-            (omega (arith, level-small rs (f .pass) (gone .node), counts-length rs here left)), one-most (leb k (level-of rs (gone .node))))
+            omega (
+              arith,
+              A-one (counts rs left here) (level-of rs (gone .node)) k
+                  (omega (arith, level-small rs (f .pass) (gone .node), counts-length rs here left)),
+              one-most (leb k (level-of rs (gone .node))),
+            )
         go false = omega arith
 
     counts-here : counts rs (woken rs left here) here ≡ raised (counts rs left here) (level-of rs (d .node))

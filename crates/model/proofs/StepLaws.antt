@@ -102,3 +102,88 @@ module _ (net : Core) where
           childless = not-true (has-child cs ticket) (w .1 .1 .0);
         },
       )
+
+-- The rules are kept
+
+firm-keeps : (net : Core) → Firm (net .plan) (net .calls) → Settled (net .plan) (net .calls) → Keeps net
+firm-keeps net f settled =
+    record {
+      plan-passes = f .pass;
+      tickets-differ = f .differ;
+      no-ticket-0 = f .none-0;
+      nodes-known = f .known;
+      parents-kept = f .kept;
+      counts-kept = λ s h. refl;
+      sites-lawful = f .law;
+      settled = settled;
+      few-open = f .few;
+    }
+
+opening-keeps : (net : Core) → Keeps net → (parent ticket node : ℕ) → Newcomer (net .plan) (net .calls) parent ticket node
+    → Keeps (opening (net .plan) (net .calls) parent ticket node .core)
+unfolding opening
+opening-keeps net k parent ticket node ok =
+    let f = keeps-firm net k in
+    firm-keeps (record { plan = net .plan; calls = opened (net .plan) (net .calls) parent ticket node })
+    (opened-firm (net .plan) (net .calls) f parent ticket node ok)
+    (opened-settled (net .plan) (net .calls) f parent ticket node ok (k .settled))
+
+returning-keeps : (net : Core) → Keeps net → (ticket : ℕ) (c : Call) → Ending (net .calls) ticket c → Keeps (done net (return ticket) .core)
+unfolding serving
+returning-keeps net k ticket c end =
+    let f = keeps-firm net k in
+    rw (end .stands)
+    (firm-keeps (record { plan = net .plan; calls = woken (net .plan) (closed (net .calls) ticket) (site-of (net .plan) (c .node)) })
+    (woken-firm (net .plan) (closed (net .calls) ticket) (closed-firm (net .plan) (net .calls) f ticket c end) (site-of (net .plan) (c .node)))
+    (returned-settled (net .plan) (net .calls) f (k .settled) ticket c end))
+
+accepted-keeps : (net : Core) → Keeps net → (c : Command) → fault net c ≡ 0 → Keeps (done net c .core)
+accepted-keeps net k (start ticket node) e = opening-keeps net k no-ticket ticket node (start-fits net ticket node e)
+accepted-keeps net k (call parent ticket node) e = opening-keeps net k parent ticket node (call-fits net parent ticket node e)
+accepted-keeps net k (return ticket) e = let w = return-fits net ticket e in returning-keeps net k ticket (w .0) (w .1)
+
+-- "every command keep[s] them"
+pub step-keeps : (net : Core) → Keeps net → (c : Command) → Keeps (step net c .core)
+step-keeps net k c =
+    ⊎-elim
+    (λ e. rw (accepted-step net c (eqb-true (fault net c) 0 e)) (accepted-keeps net k c (eqb-true (fault net c) 0 e)))
+    (λ e. rw (refused-step net c (eqb-false (fault net c) 0 e)) k)
+    (decided (eqb (fault net c) 0))
+
+pub run-keeps : (net : Core) → Keeps net → (commands : List Command) → Keeps (run net commands)
+run-keeps net k [] = k
+run-keeps net k (c ∷ commands) = run-keeps (step net c .core) (step-keeps net k c) commands
+
+-- "An empty net .. keep[s] them"
+pub empty-keeps : (rs : List Record) → passes six rs ≡ true → Keeps (empty-net rs)
+unfolding count
+empty-keeps rs pass =
+    firm-keeps (empty-net rs)
+    (record {
+      pass = pass;
+      differ = λ t. omega arith;
+      none-0 = refl;
+      known = λ c m. absurd (List·Memᴰ·not-nil m);
+      kept = λ c m. absurd (List·Memᴰ·not-nil m);
+      law = λ s. lawful-all (threads rs s) (counts rs [] s) (λ k h. omega (arith, A-counts rs s pass [] k));
+      few = omega arith;
+    })
+    (λ c m. absurd (List·Memᴰ·not-nil m))
+
+-- a command leaves the plan alone
+pub step-plan : (net : Core) (c : Command) → step net c .core .plan ≡ net .plan
+unfolding opening serving
+step-plan net c =
+    ⊎-elim
+    (λ e. ap (λ (o : Outcome). o .core .plan) (accepted-step net c (eqb-true (fault net c) 0 e)) ∙ same c)
+    (λ e. ap (λ (o : Outcome). o .core .plan) (refused-step net c (eqb-false (fault net c) 0 e)))
+    (decided (eqb (fault net c) 0))
+  where
+    same : (d : Command) → done net d .core .plan ≡ net .plan
+    same (start ticket node) = refl
+    same (call parent ticket node) = refl
+    same (return ticket) = refl
+
+pub run-plan : (net : Core) (commands : List Command) → run net commands .plan ≡ net .plan
+run-plan net [] = refl
+run-plan net (c ∷ commands) = run-plan (step net c .core) commands ∙ step-plan net c

@@ -18,3 +18,4 @@ pub mod NetRules
 pub mod Text
 pub mod Transcript
 pub mod ProgramCase
+pub mod Demands
