@@ -54,7 +54,7 @@ module _ (net : Core) (k : Keeps net) where
       let v = found-in (has (c .ticket)) (net .calls) (w .0) (w .1) in
       w .1 ∙ ap some (same-ticket (w .0) c (v .0) m (eqb-true (w .0 .ticket) (c .ticket) (v .1)))
 
-  ticket-not-0 : (c : Call) → List·Memᴰ c (net .calls) → c .ticket ≡ no-ticket → ⊥
+  pub ticket-not-0 : (c : Call) → List·Memᴰ c (net .calls) → c .ticket ≡ no-ticket → ⊥
   unfolding has
   ticket-not-0 c m e = omega (arith, k .no-ticket-0, count-some (has no-ticket) (net .calls) c m (eq-eqb (c .ticket) no-ticket e))
 

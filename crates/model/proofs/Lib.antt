@@ -21,4 +21,5 @@ pub mod RankLaws
 pub mod FreeLaws
 pub mod OrderLaws
 pub mod Demands
+pub mod TallyLaws
 pub mod ProgramCase

@@ -90,7 +90,7 @@ module _ (net : Core) where
       go (some p) a e true = refl
       go (some p) a e false = and-both (p .active) (calls rs (p .node) node) a e
 
-  return-fits : (ticket : ℕ) → fault net (return ticket) ≡ 0 → (c : Call) × Ending cs ticket c
+  pub return-fits : (ticket : ℕ) → fault net (return ticket) ≡ 0 → (c : Call) × Ending cs ticket c
   unfolding fault
   return-fits ticket e =
       let w = first-fault-is 0 (return-tests cs ticket) refl .0 e in

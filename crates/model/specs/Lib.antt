@@ -17,5 +17,6 @@ pub mod Command
 pub mod NetRules
 pub mod Text
 pub mod Transcript
+pub mod Tally
 pub mod ProgramCase
 pub mod Demands
