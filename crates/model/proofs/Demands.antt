@@ -18,14 +18,15 @@ use Rattle.model.specs.PlanValue.{empty-plan, reading-plan}
 use Rattle.model.specs.Net.{Call, Core, empty-net, site-of, has, lookup, node-of, ticket-of, has-child, above, counts, admissible, opened, closed, may-wake, waker, activated, woken}
 use Rattle.model.specs.Command.{Command, start, call, return, Answer, refused, active, waiting, ended, fault, Outcome, opening, serving, done, step, run}
 use Rattle.model.specs.NetRules.{Keeps}
-use Rattle.model.specs.Demands.{Demand-1, Opens, by-start, by-call, Demand-2, Safe, Demand-3}
+use Rattle.model.specs.Demands.{Demand-1, Opens, by-start, by-call, Demand-2, Safe, Demand-3, Drains}
 use Rattle.model.proofs.SiteLaws.{lawful-at}
 use Rattle.model.proofs.PlanLaws.{accepted-exactly}
 use Rattle.model.proofs.CountsLaws.{A-counts}
 use Rattle.model.proofs.SettledLaws.{waits-held}
 use Rattle.model.proofs.OrderLaws.{waker-oldest}
 use Rattle.model.proofs.StepLaws.{accepted-step, refused-step, step-keeps, run-keeps, empty-keeps, step-plan, run-plan}
-use Rattle.model.proofs.FreeLaws.{Free, somebody-free, free-returns, found-by-ticket}
+use Rattle.model.proofs.FreeLaws.{somebody-free, free-returns}
+use Rattle.model.proofs.TallyLaws.{drains}
 
 -- Demand 1
 
@@ -100,3 +101,12 @@ safe-after net k ok commands =
 
 pub demand-3 : Demand-3
 demand-3 = record { always-safe = λ rs ok commands. safe-after (empty-net rs) (empty-keeps rs (ok .records)) ok commands }
+
+pub it-drains : Drains
+it-drains =
+    record {
+      always = λ rs ok commands.
+          let net = run (empty-net rs) commands in
+          drains (length (net .calls)) net (run-keeps (empty-net rs) (empty-keeps rs (ok .records)) commands)
+          (subst PlanOk (sym (run-plan (empty-net rs) commands)) ok) refl;
+    }

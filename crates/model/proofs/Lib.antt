@@ -20,6 +20,8 @@ pub mod StepLaws
 pub mod RankLaws
 pub mod FreeLaws
 pub mod OrderLaws
-pub mod Demands
 pub mod TallyLaws
 pub mod ProgramCase
+pub mod NetRuleLaws
+pub mod TextLaws
+pub mod Demands

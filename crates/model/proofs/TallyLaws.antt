@@ -86,10 +86,14 @@ module _ (net : Core) (k : Keeps net) (ticket : ℕ) (gone : Call) (end : Ending
       let f = closed-firm rs (net .calls) (keeps-firm net k) ticket gone end in
       let w = waker-fits rs left f home d e in
       let some-ticket = ne-eqb (d .ticket) no-ticket (ticket-not-0 net k d (in-without (has ticket) (net .calls) d (w .0))) in
-      omega (arith, count-changed activated (may-wake rs left home) (active-on rs s) left d e,
-      ap (λ (a : Bool). one (eqb (site-of rs (d .node)) s && a)) (w .2), never (eqb (site-of rs (d .node)) s),
-      ap (λ (r : ℕ). one (eqb r s && true)) (w .1),
-      ap (λ (b : Bool). one (eqb home s && not b)) some-ticket)
+      omega (
+        arith,
+        count-changed activated (may-wake rs left home) (active-on rs s) left d e,
+        ap (λ (a : Bool). one (eqb (site-of rs (d .node)) s && a)) (w .2),
+        never (eqb (site-of rs (d .node)) s),
+        ap (λ (r : ℕ). one (eqb r s && true)) (w .1),
+        ap (λ (b : Bool). one (eqb home s && not b)) some-ticket,
+      )
 
   return-balanced : Balanced rs s (eqb home s) (net .calls) (serving rs left home)
   unfolding Balanced serving
@@ -143,8 +147,12 @@ returned-length net ticket e =
     let after = ap (λ (o : Outcome). length (o .core .calls)) (accepted-step net (return ticket) e) in
     let home = site-of (net .plan) (node-of (lookup (net .calls) ticket)) in
     let left = without (has ticket) (net .calls) in
-    omega (arith, length-without (has ticket) (net .calls) (w .0) (w .1 .stands), after,
-    length-changed activated (may-wake (net .plan) left home) left)
+    omega (
+      arith,
+      length-without (has ticket) (net .calls) (w .0) (w .1 .stands),
+      after,
+      length-changed activated (may-wake (net .plan) left home) left,
+    )
 
 pub drains : (n : ℕ) (net : Core) → Keeps net → PlanOk (net .plan) → length (net .calls) ≡ n
     → (tickets : List ℕ) × (length tickets ≡ n) × AllAccepted net tickets × (run net (all-returns tickets) .calls ≡ [])
@@ -159,8 +167,8 @@ drains (suc n) net k ok e =
     let fine = free-returns net k free in
     let after = step net (return ticket) .core in
     let rest =
-            drains n after (step-keeps net k (return ticket)) (subst PlanOk (sym (step-plan net (return ticket))) ok)
-            (omega (arith, returned-length net ticket fine))
+    drains n after (step-keeps net k (return ticket)) (subst PlanOk (sym (step-plan net (return ticket))) ok)
+    (omega (arith, returned-length net ticket fine))
     in
     (ticket ∷ rest .0, ap suc (rest .1), (fine, rest .2), rest .3)
   where

@@ -14,6 +14,7 @@ use Rattle.model.specs.Reading.{accepted, refused as not-read, read, Pla
 use Rattle.model.specs.PlanValue.{empty-plan, reading-plan}
 use Rattle.model.specs.Net.{Call, Core, empty-net, site-of, level-of, lookup, ticket-of, has-child, above, counts, waiting-order, admissible, newcomer, closed, waker, woken}
 use Rattle.model.specs.Command.{Command, start, call, return, Answer, refused, active, waiting, ended, fault, step, run}
+use Rattle.model.specs.Tally.{AllAccepted, all-returns}
 
 -- 1. "Every input gets an answer and every run ends .. No caller checks first": the definitions answer everything, and so does the code that is proved
 -- to meet them
@@ -72,3 +73,10 @@ pub record Safe (net : Core) : Type 0 where
 -- "From an empty net under an accepted plan, after any commands, refused ones too"
 pub record Demand-3 : Type 0 where
   pub always-safe : (rs : List Record) → PlanOk rs → (commands : List Command) → Safe (run (empty-net rs) commands)
+
+-- What the installer hears from it: whatever stands open can be returned, one call after the other, until nothing does
+
+pub record Drains : Type 0 where
+  pub always : (rs : List Record) → PlanOk rs → (commands : List Command) →
+      let net = run (empty-net rs) commands in
+      (tickets : List ℕ) × (length tickets ≡ length (net .calls)) × AllAccepted net tickets × (run net (all-returns tickets) .calls ≡ [])

@@ -75,15 +75,24 @@ own-ticket cs c = leb (count (has (c .ticket)) cs) 1
 abbrev pub some-ticket : Call → Bool
 some-ticket c = not (eqb (c .ticket) no-ticket)
 
+unfoldable pub tickets-kept : List Call → Bool
+tickets-kept cs = all (λ c. own-ticket cs c && some-ticket c) cs
+
+unfoldable pub book-kept : Core → Book → Bool
+book-kept net book = every sites (λ s. same-list (book s) (counts (net .plan) (net .calls) s))
+
+unfoldable pub all-lawful : Core → Bool
+all-lawful net = every sites (λ s. lawful (threads (net .plan) s) (counts (net .plan) (net .calls) s))
+
 unfoldable pub rule-tests : Core → Book → List (Bool × ℕ)
 rule-tests net book =
     (leb (length (net .calls)) most-open, 9)
     ∷ (passes six (net .plan), 1)
-    ∷ (all (λ c. own-ticket (net .calls) c && some-ticket c) (net .calls), 2)
+    ∷ (tickets-kept (net .calls), 2)
     ∷ (all (λ c. has-node (net .plan) (c .node)) (net .calls), 3)
     ∷ (all (parent-kept (net .plan) (net .calls)) (net .calls), 4)
-    ∷ (every sites (λ s. same-list (book s) (counts (net .plan) (net .calls) s)), 5)
-    ∷ (every sites (λ s. lawful (threads (net .plan) s) (counts (net .plan) (net .calls) s)), 6)
+    ∷ (book-kept net book, 5)
+    ∷ (all-lawful net, 6)
     ∷ (all (λ c. not (could-go (net .plan) (net .calls) c)) (net .calls), 7)
     ∷ []
 
