@@ -24,4 +24,5 @@ pub mod TallyLaws
 pub mod ProgramCase
 pub mod NetRuleLaws
 pub mod TextLaws
+pub mod SameLaws
 pub mod Demands

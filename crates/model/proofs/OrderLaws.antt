@@ -48,10 +48,10 @@ module _ (rs : List Record) (cs : List Call) (s : ℕ) where
   order-opened parent ticket node = picked-more (waits-on rs s) cs (newcomer rs cs parent ticket node)
 
   -- a call that ends has not waited
-  pub order-closed : (ticket : ℕ) (gone : Call) → ((c : Call) → List·Memᴰ c cs → has ticket c ≡ true → c .active ≡ true)
+  pub order-closed : (ticket : ℕ) → ((c : Call) → List·Memᴰ c cs → has ticket c ≡ true → c .active ≡ true)
       → waiting-order rs (closed cs ticket) s ≡ waiting-order rs cs s
   unfolding waiting-order closed
-  order-closed ticket gone runs =
+  order-closed ticket runs =
       picked-without (has ticket) (waits-on rs s) cs
       (λ c m e. not-true-false (has ticket c) (λ h. never-both (runs c m h) (waits-site rs s c e .1)))
 

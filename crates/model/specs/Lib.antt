@@ -19,4 +19,5 @@ pub mod Text
 pub mod Transcript
 pub mod Tally
 pub mod ProgramCase
+pub mod Same
 pub mod Demands
