@@ -1,19 +1,16 @@
 -- Who may be given a thread at a lawful site: below the limit and only there, which is where the site's rule does not block. What the net's theorems
 -- need of the rule is in `free`, `blocked` and `rule-sound`; the rest goes by the facts of every sound rule. Assumes nothing.
-use Prim.Native.Nat.{ℕ, suc, _≤_, _<_}
+use Prim.Native.Nat.{ℕ, _≤_}
 use native.Mathlib.Omega.{arith}
-use mathlib.Core.Path.{_≡_, refl, sym, ap, subst, _∙_}
-use mathlib.Core.Logic.{⊎-elim}
-use mathlib.Core.Bool.{Bool, true, false, not, _&&_, cond}
-use mathlib.Core.List.{List, [], _∷_, List·Memᴰ}
-use lib.ListN.{length, getD}
+use mathlib.Core.Path.{_≡_, refl, sym, ap, _∙_}
+use mathlib.Core.Bool.{Bool, true, false, _&&_}
+use mathlib.Core.List.{List, List·Memᴰ}
+use lib.ListN.{length}
 use lib.Dec.{leb, ltb, eqb}
-use borrow.Author.Tests.{eqb-true, leb-true, leb-false, lt-leb, ltb-true, ltb-false}
-use Rattle.ids.specs.Limits.{most-threads}
-use Rattle.lists.specs.Pick.{count}
-use Rattle.lists.proofs.CountLaws.{decided, never-both, not-true-false, and-left, and-right, lt-or-ge}
+use borrow.Author.Tests.{eqb-true, lt-leb, ltb-true, ltb-false}
+use Rattle.lists.proofs.CountLaws.{not-true-false, and-left, and-right}
 use Rattle.lists.proofs.PickLaws.{count-none, some-counted}
-use Rattle.model.specs.Site.{A, lawful, raised, may-admit}
+use Rattle.model.specs.Site.{A, lawful}
 use Rattle.model.specs.Rule.{Rule, LIVE-P, Blocked, Sound}
 use Rattle.model.specs.Plan.{Record, threads, six, passes}
 use Rattle.model.specs.Net.{Call, has-node, site-of, level-of, on, active-on, above, counts, admissible, limit-at}

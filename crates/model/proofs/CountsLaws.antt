@@ -1,27 +1,25 @@
 -- The active calls of a site, level by level, under opening, closing and waking: each is one call more or less at its level. Shown once through how
 -- many active calls have a level, which determines the counts. Assumes nothing.
-use Prim.Native.Nat.{ℕ, zero, suc, _+_, _≤_, _<_}
-use native.Mathlib.Nat.{not-suc-le-zero}
+use Prim.Native.Nat.{ℕ, zero, suc, _+_, _<_}
 use native.Mathlib.Omega.{arith}
 use mathlib.Core.Path.{_≡_, refl, sym, ap, subst, _∙_}
-use mathlib.Core.Logic.{⊎-elim}
-use mathlib.Core.Bool.{Bool, true, false, not, _&&_, cond}
-use mathlib.Core.List.{List, [], _∷_, _++_, List·Memᴰ}
+use mathlib.Core.Bool.{Bool, true, false, _&&_, cond}
+use mathlib.Core.List.{List, [], _∷_, _++_}
 use mathlib.Core.Option.{some}
-use lib.ListN.{length, getD, drop, replicate, set, length-replicate, length-set, getD-replicate, List·getD-eq-default}
+use lib.ListN.{length, getD, drop, replicate, set, length-replicate}
 use lib.Seq.{ext-getD, getD-set-same, getD-set-other}
 use lib.Dec.{leb, eqb}
-use borrow.Author.Tests.{eq-eqb, ne-eqb, eqb-true, leb-true, lt-leb}
+use borrow.Author.Tests.{eq-eqb, eqb-true}
 use Rattle.ids.specs.Limits.{most-threads}
 use Rattle.lists.specs.Count.{sum, one}
 use Rattle.lists.specs.Pick.{count, found, without, changed}
-use Rattle.lists.proofs.CountLaws.{decided, never-both, lt-or-ge, and-left, and-right, and-both}
-use Rattle.lists.proofs.PickLaws.{count-more, count-without, count-changed, count-none, some-counted}
+use Rattle.lists.proofs.CountLaws.{never-both}
+use Rattle.lists.proofs.PickLaws.{count-more, count-without, count-changed}
 use Rattle.model.specs.Site.{A, raised}
-use Rattle.model.specs.Plan.{Record, threads, six, passes}
-use Rattle.model.specs.Net.{Call, has-node, site-of, level-of, on, active-on, waits-on, above, counts, activated}
-use Rattle.model.proofs.SiteLaws.{A-one, A-end, raised-length}
-use Rattle.model.proofs.PlaceLaws.{level-small, level-below-threads}
+use Rattle.model.specs.Plan.{Record, six, passes}
+use Rattle.model.specs.Net.{Call, level-of, on, active-on, above, counts, activated}
+use Rattle.model.proofs.SiteLaws.{A-one, raised-length}
+use Rattle.model.proofs.PlaceLaws.{level-small}
 
 -- an active call of level k
 unfoldable pub of-level : List Record → ℕ → ℕ → Call → Bool

@@ -1,22 +1,16 @@
 -- The customer's demands hold of the definitions, a theorem for each. The third first for every net that keeps the rules under an accepted plan, since
 -- every command keeps them; the empty net is one. Assumes nothing.
-use Prim.Native.Nat.{ℕ, zero, suc, _+_, _-_, _≤_, _<_}
+use Prim.Native.Nat.{ℕ}
 use native.Mathlib.Omega.{arith}
 use mathlib.Core.Path.{_≡_, refl, sym, ap, subst, _∙_}
-use mathlib.Core.Logic.{⊎-elim}
-use mathlib.Core.Bool.{true, false, cond}
-use mathlib.Core.List.{List, [], _∷_, _++_, List·Memᴰ, List·Memᴰ·head}
-use mathlib.Core.Option.{Option, none, some}
+use mathlib.Core.List.{List}
+use mathlib.Core.Option.{Option, some}
 use lib.ListN.{length}
-use lib.Dec.{eqb}
-use borrow.Author.Tests.{eqb-true}
-use Rattle.lists.specs.Pick.{count}
-use Rattle.lists.proofs.PickLaws.{length-without, length-changed}
-use Rattle.model.specs.Plan.{Record, threads}
-use Rattle.model.specs.Reading.{accepted, refused as not-read, read, PlanOk}
-use Rattle.model.specs.PlanValue.{empty-plan, reading-plan}
-use Rattle.model.specs.Net.{Call, Core, empty-net, site-of, has, lookup, node-of, ticket-of, has-child, above, counts, admissible, opened, closed, may-wake, waker, activated, woken}
-use Rattle.model.specs.Command.{Command, start, call, return, Answer, refused, active, waiting, ended, fault, Outcome, opening, serving, done, step, run}
+use Rattle.model.specs.Plan.{threads}
+use Rattle.model.specs.Reading.{PlanOk}
+use Rattle.model.specs.PlanValue.{reading-plan}
+use Rattle.model.specs.Net.{Call, Core, empty-net, site-of, lookup, node-of, ticket-of, counts, admissible, opened, closed, waker}
+use Rattle.model.specs.Command.{Command, start, call, return, ended, fault, Outcome, opening, serving, done, step, run}
 use Rattle.model.specs.NetRules.{Keeps}
 use Rattle.model.specs.Demands.{Demand-1, Opens, by-start, by-call, Demand-2, Safe, Demand-3, Drains}
 use Rattle.model.proofs.SiteLaws.{lawful-at}
@@ -24,7 +18,7 @@ use Rattle.model.proofs.PlanLaws.{accepted-exactly}
 use Rattle.model.proofs.CountsLaws.{A-counts}
 use Rattle.model.proofs.SettledLaws.{waits-held}
 use Rattle.model.proofs.OrderLaws.{waker-oldest}
-use Rattle.model.proofs.StepLaws.{accepted-step, refused-step, step-keeps, run-keeps, empty-keeps, step-plan, run-plan}
+use Rattle.model.proofs.StepLaws.{accepted-step, refused-step, run-keeps, empty-keeps, run-plan}
 use Rattle.model.proofs.FreeLaws.{somebody-free, free-returns}
 use Rattle.model.proofs.TallyLaws.{drains}
 

@@ -1,24 +1,24 @@
 -- The net rules but the one on waiting calls are kept by each of the three things that happen to the open calls: one is opened, one is closed, one is
 -- woken. Each rule by what the change does to a lookup or a count. Assumes nothing.
-use Prim.Native.Nat.{ℕ, suc, _+_, _≤_, _<_}
+use Prim.Native.Nat.{ℕ, _+_, _≤_, _<_}
 use native.Mathlib.Omega.{arith}
 use mathlib.Core.Path.{_≡_, refl, sym, ap, subst, _∙_}
 use mathlib.Core.Logic.{⊎-elim}
-use mathlib.Core.Bool.{Bool, true, false, not, _&&_, _||_, cond}
-use mathlib.Core.List.{List, [], _∷_, _++_, List·Memᴰ, List·Memᴰ·append-cases, List·Memᴰ·eq-of-singleton}
+use mathlib.Core.Bool.{Bool, true, false, not, _||_}
+use mathlib.Core.List.{List, [], _∷_, List·Memᴰ, List·Memᴰ·append-cases, List·Memᴰ·eq-of-singleton}
 use mathlib.Core.Option.{Option, none, some}
 use lib.ListN.{length, length-append}
 use lib.Dec.{eqb}
 use borrow.Author.Tests.{eqb-true, eq-eqb, ne-eqb}
 use Rattle.ids.specs.Limits.{no-ticket, most-open}
 use Rattle.lists.specs.Count.{one}
-use Rattle.lists.specs.Pick.{count, found, without, changed}
-use Rattle.lists.proofs.CountLaws.{decided, never-both, not-true-false, and-left, and-right}
-use Rattle.lists.proofs.PickLaws.{count-more, count-none, count-without, count-changed, found-in, found-none, found-more, found-without, found-changed, in-without, in-changed, without-none, changed-none, length-without, length-changed, any-none}
+use Rattle.lists.specs.Pick.{count, changed}
+use Rattle.lists.proofs.CountLaws.{never-both, and-left, and-right}
+use Rattle.lists.proofs.PickLaws.{count-more, count-none, count-without, count-changed, found-in, found-none, found-more, found-without, found-changed, in-without, in-changed, changed-none, length-without, length-changed, any-none}
 use Rattle.model.specs.Site.{lawful, raised}
 use Rattle.model.specs.Plan.{Record, threads, calls, six, passes}
 use Rattle.model.specs.Net.{Call, Core, has-node, site-of, level-of, has, lookup, is-child, has-child, on, active-on, waits-on, counts, admissible, newcomer, opened, closed, may-wake, waker, activated, woken}
-use Rattle.model.specs.NetRules.{NetRules, Keeps, parent-stands, parent-kept}
+use Rattle.model.specs.NetRules.{Keeps, parent-stands, parent-kept}
 use Rattle.model.proofs.SiteLaws.{A-one, lawful-at, lawful-all}
 use Rattle.model.proofs.RuleLaws.{S}
 use Rattle.model.proofs.PlaceLaws.{level-small, level-below-threads}

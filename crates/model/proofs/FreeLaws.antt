@@ -1,26 +1,24 @@
 -- Where a call is open under an accepted plan, some active call has no open call beneath it, and its return is accepted. A search that goes down the
 -- dependency: from an active call to its child, and from a child that waits to the active call of its site that holds it back; the rank falls.
 -- Of the rule of admission only fact B enters, in `blocker`. Assumes nothing.
-use Prim.Native.Nat.{ℕ, zero, suc, _≤_, _<_}
+use Prim.Native.Nat.{ℕ, zero, suc, _≤_}
 use native.Mathlib.Nat.{le-refl}
 use native.Mathlib.Omega.{arith}
 use mathlib.Core.Path.{_≡_, refl, sym, ap, subst, _∙_}
 use mathlib.Core.Logic.{_⊎_, inl, inr, ⊎-elim}
-use mathlib.Core.Bool.{Bool, true, false, not, _&&_, _||_, cond}
-use mathlib.Core.List.{List, [], _∷_, List·Memᴰ, List·Memᴰ·head}
+use mathlib.Core.Bool.{Bool, true, false, not, _||_}
+use mathlib.Core.List.{List, List·Memᴰ}
 use mathlib.Core.Option.{Option, none, some}
-use lib.ListN.{length}
-use lib.Dec.{T, eqb}
-use borrow.Author.Tests.{eqb-true, eqb-false, eq-eqb, ne-eqb}
+use lib.Dec.{eqb}
+use borrow.Author.Tests.{eqb-true, eq-eqb}
 use Rattle.ids.specs.Limits.{no-ticket}
-use Rattle.lists.specs.Pick.{count, any, found}
-use Rattle.lists.proofs.CountLaws.{decided, never-both, and-left, and-right}
-use Rattle.lists.proofs.PickLaws.{only-one, found-in, found-some, count-some, any-some, length-without, length-changed}
+use Rattle.lists.proofs.CountLaws.{decided, and-right}
+use Rattle.lists.proofs.PickLaws.{only-one, found-in, found-some, count-some, any-some}
 use Rattle.model.specs.Graph.{Depends, by-call, stay, go}
-use Rattle.model.specs.Plan.{Record, calls, site-steps, listed}
+use Rattle.model.specs.Plan.{calls, site-steps}
 use Rattle.model.specs.Reading.{PlanOk}
-use Rattle.model.specs.Net.{Call, Core, has-node, site-of, level-of, has, lookup, is-open, is-active, node-of, ticket-of, is-child, has-child, active-on, admissible, closed, waker, woken}
-use Rattle.model.specs.Command.{Command, return, Answer, ended, return-tests, fault, Outcome, serving, done, step}
+use Rattle.model.specs.Net.{Call, Core, site-of, level-of, has, lookup, is-open, is-active, is-child, has-child, active-on}
+use Rattle.model.specs.Command.{return, return-tests, fault}
 use Rattle.model.specs.NetRules.{Keeps, parent-stands, parent-kept}
 use Rattle.model.proofs.GraphLaws.{yes, or-right}
 use Rattle.model.proofs.FaultLaws.{first-fault-is}
@@ -29,7 +27,6 @@ use Rattle.model.proofs.AdmitLaws.{blocker}
 use Rattle.model.proofs.FirmLaws.{active-site}
 use Rattle.model.proofs.SettledLaws.{waits-held}
 use Rattle.model.proofs.RankLaws.{rank, rank-falls}
-use Rattle.model.proofs.StepLaws.{accepted-step}
 
 -- an active call with no open call beneath it
 pub record Free (cs : List Call) : Type 0 where

@@ -25,4 +25,6 @@ pub mod ProgramCase
 pub mod NetRuleLaws
 pub mod TextLaws
 pub mod SameLaws
+pub mod Useless
+pub mod RefusalLaws
 pub mod Demands

@@ -1,18 +1,17 @@
 -- The tests of the net rules decide them: a net and its book break none exactly when `broken-rule` is 0, and it names the first that is broken.
 -- Each test is what its field says, over the calls or over the sites. Assumes nothing.
-use Prim.Native.Nat.{ℕ, suc, _≤_, _<_}
+use Prim.Native.Nat.{ℕ, _≤_, _<_}
 use native.Mathlib.Omega.{arith}
-use mathlib.Core.Path.{_≡_, refl, sym, ap, ap₂, subst, _∙_}
+use mathlib.Core.Path.{_≡_, refl, sym, ap, ap₂, subst}
 use mathlib.Core.Logic.{_↔_, ⊎-elim}
 use mathlib.Core.Bool.{Bool, true, false, not, _&&_}
-use mathlib.Core.List.{List, [], _∷_, List·Memᴰ}
+use mathlib.Core.List.{List, [], _∷_}
 use lib.ListN.{length}
-use lib.Dec.{leb, eqb}
-use borrow.Author.Tests.{leb-true, le-leb, eqb-true, eq-eqb, eqb-false, ne-eqb, not-true}
+use lib.Dec.{eqb}
+use borrow.Author.Tests.{leb-true, le-leb, eqb-true, eq-eqb, ne-eqb}
 use Rattle.ids.specs.Limits.{sites, no-ticket, most-open}
-use Rattle.lists.specs.Count.{every}
-use Rattle.lists.specs.Pick.{count, all}
-use Rattle.lists.proofs.CountLaws.{decided, never-both, not-true-false, and-left, and-right, and-both, every-at, every-all, lt-or-ge}
+use Rattle.lists.specs.Pick.{count}
+use Rattle.lists.proofs.CountLaws.{never-both, and-left, and-right, and-both, every-at, every-all, lt-or-ge}
 use Rattle.lists.proofs.PickLaws.{all-at, all-each, count-none, count-some, some-counted}
 use Rattle.model.specs.Site.{lawful}
 use Rattle.model.specs.Plan.{Record, threads, six, passes}

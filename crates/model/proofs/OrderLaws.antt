@@ -2,20 +2,20 @@
 -- Each law once, from the laws of lists under a test. Assumes nothing.
 use Prim.Native.Nat.{ℕ, _+_, _≤_}
 use native.Mathlib.Omega.{arith}
-use mathlib.Core.Path.{_≡_, refl, sym, ap, subst, _∙_}
-use mathlib.Core.Logic.{_↔_, _⊎_}
-use mathlib.Core.Bool.{Bool, true, false, not, _&&_, cond}
-use mathlib.Core.List.{List, [], _∷_, _++_, List·Memᴰ, List·Memᴰ·head, List·Memᴰ·tail, List·Memᴰ·cases-cons}
+use mathlib.Core.Path.{_≡_, refl, sym, ap, _∙_}
+use mathlib.Core.Logic.{_↔_}
+use mathlib.Core.Bool.{Bool, true, false, _&&_, cond}
+use mathlib.Core.List.{List, [], _∷_, _++_, List·Memᴰ}
 use mathlib.Core.Option.{Option, none, some}
 use lib.Dec.{ltb, eqb}
-use borrow.Author.Tests.{eqb-true, ne-eqb, eq-eqb}
+use borrow.Author.Tests.{eqb-true, ne-eqb}
 use Rattle.lists.specs.Count.{one}
-use Rattle.lists.specs.Pick.{count, any, found, without, changed, picked}
+use Rattle.lists.specs.Pick.{count, found, without, changed}
 use Rattle.lists.proofs.CountLaws.{never-both, not-true-false, and-left, and-right}
-use Rattle.lists.proofs.PickLaws.{count-more, count-fewer, count-none, count-without, count-changed, changed-none, found-in, found-none, found-more, found-last, found-without, found-changed, none-changed, found-picked, picked-more, picked-without, picked-changed, picked-apart, picked-all, all-picked, count-picked, any-counted}
+use Rattle.lists.proofs.PickLaws.{count-more, count-fewer, count-without, count-changed, changed-none, found-more, found-last, found-without, found-picked, picked-more, picked-without, picked-changed, picked-apart, picked-all, all-picked, count-picked, any-counted}
 use Rattle.model.specs.Plan.{Record}
-use Rattle.model.specs.Net.{Call, site-of, has, lookup, is-child, has-child, on, waits-on, waiting-order, admissible, newcomer, opened, closed, may-wake, waker, activated, woken}
-use Rattle.model.proofs.FirmLaws.{Ending, waits-site}
+use Rattle.model.specs.Net.{Call, has, lookup, is-child, has-child, on, waits-on, waiting-order, admissible, newcomer, opened, closed, may-wake, waker, activated, woken}
+use Rattle.model.proofs.FirmLaws.{waits-site}
 
 -- The waiting order
 

@@ -1,10 +1,10 @@
 -- What a plan whose records pass says of its nodes: a listed node has its record, its level is below its site's threads, and no site has more than 64.
 -- From the file rules as statements about the whole plan. Assumes nothing.
-use Prim.Native.Nat.{ℕ, suc, _≤_, _<_}
+use Prim.Native.Nat.{ℕ, _≤_, _<_}
 use native.Mathlib.Omega.{arith}
-use mathlib.Core.Path.{_≡_, refl, sym, ap, subst, _∙_}
+use mathlib.Core.Path.{_≡_, refl, sym, subst}
 use mathlib.Core.Logic.{⊎-elim}
-use mathlib.Core.Bool.{Bool, true, false}
+use mathlib.Core.Bool.{true}
 use mathlib.Core.List.{List, List·Memᴰ}
 use mathlib.Core.Option.{Option, none, some}
 use lib.Dec.{T, eqb, leb}
@@ -12,7 +12,7 @@ use mir.Facts.{yes-and}
 use borrow.Author.Tests.{eq-eqb, le-leb}
 use Rattle.ids.specs.Limits.{most-threads}
 use Rattle.lists.proofs.CountLaws.{never-both, lt-or-ge}
-use Rattle.model.specs.Plan.{Record, site, node, Place, place, present, threads, six, passes, descends, site-steps, listed}
+use Rattle.model.specs.Plan.{Record, node, Place, place, present, threads, six, passes, descends, site-steps, listed}
 use Rattle.model.specs.Net.{has-node, site-of, level-of, site-at, level-at}
 use Rattle.model.proofs.GraphLaws.{yes}
 use Rattle.model.proofs.RecordLaws.{threads-listed, listed-threads, place-listed, passes-ok}

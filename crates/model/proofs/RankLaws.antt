@@ -1,7 +1,7 @@
 -- Under an accepted plan the dependency falls: the rank of a node is how many of the plan's nodes it reaches, and a node that depends on another reaches
 -- all that the other reaches, and itself besides. Assumes nothing.
 use Prim.Native.Nat.{ℕ, _<_}
-use mathlib.Core.Path.{_≡_, refl}
+use mathlib.Core.Path.{_≡_}
 use mathlib.Core.Logic.{⊎-elim}
 use mathlib.Core.Bool.{Bool, true, false}
 use mathlib.Core.List.{List, List·Memᴰ}

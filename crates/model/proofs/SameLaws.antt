@@ -1,11 +1,11 @@
 -- Nets that differ in the places of their calls alone answer every command alike and stay so: a call is found by its ticket wherever it stands, counts and
 -- waiting orders are the same, and so is whom a return wakes. Assumes nothing.
-use Prim.Native.Nat.{ℕ, _+_, _≤_}
+use Prim.Native.Nat.{ℕ}
 use native.Mathlib.Omega.{arith}
 use mathlib.Core.Path.{_≡_, refl, sym, ap, ap₂, subst, _∙_}
 use mathlib.Core.Logic.{⊎-elim}
 use mathlib.Core.Bool.{Bool, true, false, not, _&&_, cond}
-use mathlib.Core.List.{List, [], _∷_, _++_, List·Memᴰ}
+use mathlib.Core.List.{List, List·Memᴰ}
 use mathlib.Core.Option.{Option, none, some}
 use lib.ListN.{length}
 use lib.Dec.{eqb, ltb}
@@ -14,17 +14,17 @@ use Rattle.ids.specs.Limits.{no-ticket}
 use Rattle.lists.specs.Count.{one}
 use Rattle.lists.specs.Pick.{count, found, without, changed}
 use Rattle.lists.proofs.CountLaws.{decided, never-both, and-left, and-right, and-both}
-use Rattle.lists.proofs.PickLaws.{count-all, count-none, count-some, some-counted, count-more, count-without, count-changed, changed-none, found-in, found-none, found-some, found-alike, only-one}
+use Rattle.lists.proofs.PickLaws.{count-all, count-none, count-some, some-counted, count-more, count-without, count-changed, changed-none, found-in, found-none, found-alike, only-one}
 use Rattle.model.specs.Plan.{Record, threads, six, passes}
 use Rattle.model.specs.Site.{may-admit}
-use Rattle.model.specs.Net.{Call, Core, site-of, level-of, has, lookup, node-of, ticket-of, has-child, counts, waiting-order, admissible, newcomer, opened, closed, may-wake, waker, activated, woken}
-use Rattle.model.specs.Command.{Command, start, call, return, Answer, refused, active, waiting, ended, fault, Outcome, opening, serving, done, step}
+use Rattle.model.specs.Net.{Call, Core, site-of, level-of, has, lookup, ticket-of, has-child, counts, waiting-order, admissible, newcomer, opened, closed, may-wake, waker, activated, woken}
+use Rattle.model.specs.Command.{Command, start, call, return, refused, active, waiting, ended, fault, opening, serving, done, step}
 use Rattle.model.specs.NetRules.{Keeps}
 use Rattle.model.specs.Same.{Same}
 use Rattle.model.proofs.CountsLaws.{of-level, counts-alike}
 use Rattle.model.proofs.FirmLaws.{Ending}
 use Rattle.model.proofs.OrderLaws.{waker-oldest, order-opened, order-closed, order-woken, order-elsewhere, has-child-counted}
-use Rattle.model.proofs.StepLaws.{accepted-step, refused-step, return-fits, step-plan}
+use Rattle.model.proofs.StepLaws.{accepted-step, refused-step, return-fits}
 use Rattle.model.proofs.FreeLaws.{found-by-ticket}
 
 -- Calls as values
@@ -135,8 +135,13 @@ module _ (rs : List Record) (cs ds : List Call) (alike : Alike cs ds) (orders : 
     opened-alike : (parent ticket node : ℕ) → Alike (opened rs cs parent ticket node) (opened rs ds parent ticket node)
     unfolding opened
     opened-alike parent ticket node f =
-        omega (arith, count-more f cs (newcomer rs cs parent ticket node), count-more f ds (newcomer rs ds parent ticket node), alike f,
-        ap (λ (c : Call). one (f c)) (new-same parent ticket node))
+        omega (
+          arith,
+          count-more f cs (newcomer rs cs parent ticket node),
+          count-more f ds (newcomer rs ds parent ticket node),
+          alike f,
+          ap (λ (c : Call). one (f c)) (new-same parent ticket node),
+        )
 
     opened-orders : (parent ticket node s : ℕ) → waiting-order rs (opened rs cs parent ticket node) s ≡ waiting-order rs (opened rs ds parent ticket node) s
     opened-orders parent ticket node s =

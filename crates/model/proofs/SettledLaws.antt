@@ -1,20 +1,20 @@
 -- No waiting call may be admitted: kept when a call is opened, since more calls never unblock (M), and when one returns, since one admission is enough
 -- (X, at the lower of two waiters' levels, both blocked before). Assumes nothing.
-use Prim.Native.Nat.{ℕ, suc, _+_, _≤_, _<_}
+use Prim.Native.Nat.{ℕ, _+_, _≤_, _<_}
 use native.Mathlib.Nat.{le-refl}
 use native.Mathlib.Omega.{arith}
 use mathlib.Core.Path.{_≡_, refl, sym, ap, subst, _∙_}
 use mathlib.Core.Logic.{_⊎_, inl, inr, ⊎-elim}
-use mathlib.Core.Bool.{Bool, true, false, not, _&&_, cond}
-use mathlib.Core.List.{List, [], _∷_, _++_, List·Memᴰ}
+use mathlib.Core.Bool.{Bool, true, false, not, _&&_}
+use mathlib.Core.List.{List, [], _∷_, List·Memᴰ}
 use mathlib.Core.Option.{Option, none, some}
 use lib.ListN.{length}
 use lib.Dec.{leb, eqb}
 use borrow.Author.Tests.{eqb-true, eqb-false, eq-eqb, ne-eqb}
-use Rattle.lists.specs.Pick.{found, without, changed}
-use Rattle.lists.proofs.CountLaws.{decided, never-both, not-true-false, and-left, and-right, lt-or-ge}
+use Rattle.lists.specs.Pick.{changed}
+use Rattle.lists.proofs.CountLaws.{decided, never-both, lt-or-ge}
 use Rattle.lists.proofs.PickLaws.{one-most, found-none, changed-none}
-use Rattle.model.specs.Site.{A, raised, put}
+use Rattle.model.specs.Site.{A, raised}
 use Rattle.model.specs.Rule.{Blocked}
 use Rattle.model.specs.Plan.{Record, threads}
 use Rattle.model.specs.Net.{Call, has-node, site-of, level-of, has, on, active-on, waits-on, counts, admissible, newcomer, opened, closed, may-wake, waker, activated, woken}
@@ -24,7 +24,7 @@ use Rattle.model.proofs.RuleLaws.{D, M, X}
 use Rattle.model.proofs.PlaceLaws.{level-small}
 use Rattle.model.proofs.CountsLaws.{more, counts-length, counts-opened, counts-closed, counts-woken}
 use Rattle.model.proofs.AdmitLaws.{rule, rule-sound, Held-back, blocked, held-back}
-use Rattle.model.proofs.FirmLaws.{Firm, Newcomer, Ending, opened-firm, closed-firm, woken-firm, in-opened, in-closed, waker-fits, in-woken, active-site}
+use Rattle.model.proofs.FirmLaws.{Firm, Newcomer, Ending, opened-firm, closed-firm, woken-firm, in-opened, in-closed, waker-fits, in-woken}
 
 abbrev pub Settled : List Record → List Call → Type 0
 Settled rs cs = (c : Call) → List·Memᴰ c cs → could-go rs cs c ≡ false

@@ -1,23 +1,22 @@
 -- Every command keeps the net rules, a refused one because it changes nothing; so any run of commands does, and the empty net of a plan whose
 -- records pass keeps them from the start. Assumes nothing.
-use Prim.Native.Nat.{ℕ, suc, _+_, _≤_, _<_}
+use Prim.Native.Nat.{ℕ}
 use native.Mathlib.Omega.{arith}
-use mathlib.Core.Path.{_≡_, refl, sym, ap, subst, _∙_}
-use mathlib.Core.Logic.{_⊎_, inl, inr, ⊎-elim}
-use mathlib.Core.Bool.{Bool, true, false, not, _&&_, _||_, cond}
-use mathlib.Core.List.{List, [], _∷_, _++_, List·Memᴰ, List·Memᴰ·not-nil}
+use mathlib.Core.Path.{_≡_, refl, ap, subst, _∙_}
+use mathlib.Core.Logic.{⊎-elim}
+use mathlib.Core.Bool.{Bool, true, false, not, _||_}
+use mathlib.Core.List.{List, [], _∷_, List·Memᴰ·not-nil}
 use mathlib.Core.Option.{Option, none, some}
-use lib.ListN.{length, length-replicate, replicate}
-use lib.Dec.{eqb, ltb}
+use lib.ListN.{length}
+use lib.Dec.{eqb}
 use borrow.Author.Tests.{eqb-true, eqb-false, ltb-true, not-true, eq-eqb}
-use Rattle.ids.specs.Limits.{no-ticket, most-open, most-threads}
+use Rattle.ids.specs.Limits.{no-ticket, most-open}
 use Rattle.lists.specs.Pick.{count, found}
 use Rattle.lists.proofs.CountLaws.{decided, never-both, and-both}
-use Rattle.model.specs.Site.{lawful, A}
-use Rattle.model.specs.Plan.{Record, threads, calls, six, passes, first-fault}
-use Rattle.model.specs.Net.{Call, Core, empty-net, has-node, site-of, level-of, has, lookup, is-open, is-active, node-of, has-child, counts, admissible, opened, closed, waker, woken}
-use Rattle.model.specs.Command.{Command, start, call, return, Answer, refused, active, waiting, ended, start-tests, call-tests, return-tests, tests, fault, Outcome, opening, serving, done, decided as settled-by, step, run}
-use Rattle.model.specs.NetRules.{NetRules, Keeps, own-book, parent-stands}
+use Rattle.model.specs.Plan.{Record, threads, calls, six, passes}
+use Rattle.model.specs.Net.{Call, Core, empty-net, site-of, lookup, is-open, is-active, node-of, has-child, counts, opened, closed, woken}
+use Rattle.model.specs.Command.{Command, start, call, return, refused, active, start-tests, call-tests, return-tests, fault, Outcome, opening, serving, done, decided as settled-by, step, run}
+use Rattle.model.specs.NetRules.{Keeps, parent-stands}
 use Rattle.model.proofs.SiteLaws.{lawful-all}
 use Rattle.model.proofs.FaultLaws.{first-fault-is}
 use Rattle.model.proofs.CountsLaws.{A-counts}

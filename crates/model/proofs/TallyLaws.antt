@@ -1,28 +1,28 @@
 -- At each site admissions less returns are the active calls, along any run: by what each command does to the active calls. And a net that keeps the
 -- rules under an accepted plan can always be emptied by returns: a free call is there as long as any is open. Assumes nothing.
-use Prim.Native.Nat.{ℕ, zero, suc, _+_, _≤_, _<_}
+use Prim.Native.Nat.{ℕ, zero, suc, _+_}
 use native.Mathlib.Omega.{arith}
-use mathlib.Core.Path.{_≡_, refl, sym, ap, subst, _∙_}
+use mathlib.Core.Path.{_≡_, refl, sym, ap, subst}
 use mathlib.Core.Logic.{⊎-elim}
 use mathlib.Core.Bool.{Bool, true, false, not, _&&_, cond}
-use mathlib.Core.List.{List, [], _∷_, _++_, List·Memᴰ, List·Memᴰ·head}
+use mathlib.Core.List.{List, [], _∷_, List·Memᴰ, List·Memᴰ·head}
 use mathlib.Core.Option.{Option, none, some}
 use lib.ListN.{length}
 use lib.Dec.{eqb}
-use borrow.Author.Tests.{eqb-true, eqb-false, eq-eqb, ne-eqb}
+use borrow.Author.Tests.{eqb-true, eqb-false, ne-eqb}
 use Rattle.ids.specs.Limits.{no-ticket}
 use Rattle.lists.specs.Count.{one}
-use Rattle.lists.specs.Pick.{count, found, without, changed}
-use Rattle.lists.proofs.CountLaws.{decided, never-both}
+use Rattle.lists.specs.Pick.{count, without}
+use Rattle.lists.proofs.CountLaws.{decided}
 use Rattle.lists.proofs.PickLaws.{count-more, count-without, count-changed, changed-none, in-without, length-without, length-changed}
 use Rattle.model.specs.Plan.{Record, six, passes}
 use Rattle.model.specs.Reading.{PlanOk}
 use Rattle.model.specs.Net.{Call, Core, empty-net, site-of, has, lookup, node-of, ticket-of, on, active-on, admissible, newcomer, opened, closed, may-wake, waker, activated, woken}
-use Rattle.model.specs.Command.{Command, start, call, return, Answer, refused, active, waiting, ended, fault, Outcome, opening, serving, done, step, run}
+use Rattle.model.specs.Command.{Command, start, call, return, Answer, refused, active, waiting, fault, Outcome, opening, serving, done, step, run}
 use Rattle.model.specs.NetRules.{Keeps}
 use Rattle.model.specs.Tally.{admits, returns, command-site, tally, AllAccepted, all-returns}
 use Rattle.model.proofs.FirmLaws.{keeps-firm, Ending, closed-firm, waker-fits}
-use Rattle.model.proofs.StepLaws.{accepted-step, refused-step, return-fits, step-keeps, run-keeps, empty-keeps, step-plan, run-plan}
+use Rattle.model.proofs.StepLaws.{accepted-step, refused-step, return-fits, step-keeps, empty-keeps, step-plan}
 use Rattle.model.proofs.FreeLaws.{Free, somebody-free, free-returns, ticket-not-0}
 
 -- Admissions less returns

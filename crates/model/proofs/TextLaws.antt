@@ -1,14 +1,14 @@
 -- A number's decimal digits read back as the number, and the first is no 0 unless the number is. By induction over the places. Assumes nothing.
 use Prim.Native.Nat.{ℕ, zero, suc, _+_, _-_, _*_, _/_, _%_, _^_, _≤_, _<_}
-use native.Mathlib.Nat.{pow-suc, div-add-mod}
+use native.Mathlib.Nat.{pow-suc}
 use native.Mathlib.Omega.{arith}
-use mathlib.Core.Path.{_≡_, refl, sym, ap, subst, _∙_}
+use mathlib.Core.Path.{_≡_, refl}
 use mathlib.Core.Logic.{⊎-elim}
-use mathlib.Core.Bool.{Bool, true, false, cond}
-use mathlib.Core.List.{List, [], _∷_, _++_}
-use lib.ListN.{length, length-append, getD}
+use mathlib.Core.Bool.{cond}
+use mathlib.Core.List.{[], _∷_, _++_}
+use lib.ListN.{getD}
 use lib.Dec.{ltb}
-use borrow.Author.Tests.{lt-ltb, le-ltb, ltb-true, ltb-false}
+use borrow.Author.Tests.{lt-ltb, le-ltb}
 use Rattle.lists.proofs.CountLaws.{lt-or-ge}
 use Rattle.model.specs.Text.{Text, digit, decimal-in, decimal, most-digits, reads-on}
 

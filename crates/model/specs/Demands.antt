@@ -7,13 +7,13 @@ use mathlib.Core.Bool.{true, false, cond}
 use mathlib.Core.List.{List, [], _∷_, _++_, List·Memᴰ}
 use mathlib.Core.Option.{some}
 use lib.ListN.{length}
-use Rattle.lists.specs.Pick.{count, found, without}
+use Rattle.lists.specs.Pick.{count, found}
 use Rattle.model.specs.Site.{may-admit}
 use Rattle.model.specs.Plan.{Record, threads, encode}
 use Rattle.model.specs.Reading.{accepted, refused as not-read, read, PlanOk}
 use Rattle.model.specs.PlanValue.{empty-plan, reading-plan}
-use Rattle.model.specs.Net.{Call, Core, empty-net, site-of, level-of, lookup, ticket-of, has-child, above, counts, waiting-order, admissible, newcomer, closed, waker, woken}
-use Rattle.model.specs.Command.{Command, start, call, return, Answer, refused, active, waiting, ended, fault, step, run}
+use Rattle.model.specs.Net.{Call, Core, empty-net, site-of, level-of, lookup, ticket-of, has-child, above, counts, waiting-order, admissible, newcomer, closed, woken}
+use Rattle.model.specs.Command.{Command, start, call, return, refused, active, waiting, ended, fault, step, run}
 use Rattle.model.specs.Tally.{AllAccepted, all-returns}
 
 -- 1. "Every input gets an answer and every run ends .. No caller checks first": the definitions answer everything, and so does the code that is proved

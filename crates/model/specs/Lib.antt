@@ -20,4 +20,5 @@ pub mod Transcript
 pub mod Tally
 pub mod ProgramCase
 pub mod Same
+pub mod Useless
 pub mod Demands

@@ -1,14 +1,13 @@
 -- The net of open calls: document 01, "Starts, calls, returns". `rs` is the plan, the list of its records, and `cs` are the open calls in the order
 -- of their opening. A call waits from its opening on or never, so that this is the order of waiting too. Assumes nothing.
 use Prim.Native.Nat.{ℕ}
-use mathlib.Core.Path.{_≡_}
 use mathlib.Core.Bool.{Bool, true, false, not, _&&_, cond}
 use mathlib.Core.List.{List, [], _∷_, _++_}
 use mathlib.Core.Option.{Option, none, some}
 use lib.ListN.{replicate}
 use lib.Dec.{leb, eqb}
 use Rattle.ids.specs.Limits.{most-threads, no-ticket}
-use Rattle.lists.specs.Pick.{count, any, found, without, changed, picked}
+use Rattle.lists.specs.Pick.{any, found, without, changed, picked}
 use Rattle.model.specs.Site.{raised, may-admit, limit}
 use Rattle.model.specs.Plan.{Record, Place, place, present, threads}
 use Rattle.model.specs.PlanValue.{nowhere}

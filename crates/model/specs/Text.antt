@@ -5,9 +5,8 @@ use Prim.Native.Char.{code}
 use Prim.Native.String.{String, len, charAt}
 use mathlib.Core.Bool.{cond}
 use mathlib.Core.List.{List, [], _∷_, _++_}
-use lib.ListN.{length}
 use lib.Dec.{ltb}
-use Rattle.model.specs.Plan.{Record, listed, edges}
+use Rattle.model.specs.Plan.{edges}
 use Rattle.model.specs.Command.{Command, start, call, return, Answer, refused, active, waiting, ended, Standing, is-running, is-waiting, not-open, Roomed, has-room, no-answer}
 
 abbrev pub Text : Type 0
