@@ -1,3 +1,4 @@
 pub mod CountLaws
 pub mod FillLaws
 pub mod PickLaws
+pub mod BlockLaws
