@@ -2,3 +2,4 @@ pub mod CountLaws
 pub mod FillLaws
 pub mod PickLaws
 pub mod BlockLaws
+pub mod TellLaws

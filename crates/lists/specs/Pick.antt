@@ -1,5 +1,5 @@
 -- Lists under a test: how many entries pass it, the first that does, and the list without that one, or with that one changed. Assumes nothing.
-use Prim.Native.Nat.{ℕ, _+_}
+use Prim.Native.Nat.{ℕ, zero, suc, _+_}
 use mathlib.Core.Bool.{Bool, true, false, _&&_, _||_, cond}
 use mathlib.Core.List.{List, [], _∷_}
 use mathlib.Core.Option.{Option, none, some}
@@ -40,3 +40,20 @@ module _ {A : Type 0} where
   unfoldable pub picked : (A → Bool) → List A → List A
   picked f [] = []
   picked f (x ∷ xs) = cond (f x) (x ∷ picked f xs) (picked f xs)
+
+  -- what a number of an entry is, by its place; 0 past the end
+  unfoldable pub tell : (A → ℕ) → List A → ℕ → ℕ
+  tell g [] i = 0
+  tell g (x ∷ xs) zero = g x
+  tell g (x ∷ xs) (suc i) = tell g xs i
+
+  -- whether the entry at a place passes; past the end none does
+  unfoldable pub passes-at : (A → Bool) → List A → ℕ → Bool
+  passes-at f [] i = false
+  passes-at f (x ∷ xs) zero = f x
+  passes-at f (x ∷ xs) (suc i) = passes-at f xs i
+
+  -- the place of the first that passes, or the length
+  unfoldable pub place-of : (A → Bool) → List A → ℕ
+  place-of f [] = 0
+  place-of f (x ∷ xs) = cond (f x) 0 (suc (place-of f xs))

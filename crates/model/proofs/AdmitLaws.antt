@@ -14,6 +14,7 @@ use Rattle.model.specs.Site.{A, lawful}
 use Rattle.model.specs.Rule.{Rule, LIVE-P, Blocked, Sound}
 use Rattle.model.specs.Plan.{Record, threads, six, passes}
 use Rattle.model.specs.Net.{Call, has-node, site-of, level-of, on, active-on, above, counts, admissible, limit-at}
+use Rattle.model.specs.NetRules.{Lawful}
 use Rattle.model.proofs.RuleLaws.{LIVE-P-sound, under-limit, over-limit, admits-below, B}
 use Rattle.model.proofs.PlaceLaws.{threads-most, level-below-threads}
 use Rattle.model.proofs.CountsLaws.{of-level, counts-length, counts-at, A-counts}
@@ -29,10 +30,6 @@ rule-sound s = LIVE-P-sound
 -- what the site's rule says of a level
 abbrev pub Held-back : List Record → List Call → ℕ → ℕ → Type 0
 Held-back rs cs s i = Blocked (rule s) (threads rs s) (counts rs cs s) i
-
--- each site is lawful
-abbrev pub Lawful : List Record → List Call → Type 0
-Lawful rs cs = (s : ℕ) → lawful (threads rs s) (counts rs cs s) ≡ true
 
 module _ (rs : List Record) (pass : passes six rs ≡ true) (cs : List Call) (law : Lawful rs cs) where
   counts-long : (s : ℕ) → threads rs s ≤ length (counts rs cs s)

@@ -18,22 +18,12 @@ use Rattle.lists.proofs.PickLaws.{count-more, count-none, count-without, count-
 use Rattle.model.specs.Site.{lawful, raised}
 use Rattle.model.specs.Plan.{Record, threads, calls, six, passes}
 use Rattle.model.specs.Net.{Call, Core, has-node, site-of, level-of, has, lookup, is-child, has-child, on, active-on, waits-on, counts, admissible, newcomer, opened, closed, may-wake, waker, activated, woken}
-use Rattle.model.specs.NetRules.{Keeps, parent-stands, parent-kept}
+use Rattle.model.specs.NetRules.{Keeps, parent-stands, parent-kept, Lawful, Firm, Newcomer, Ending}
 use Rattle.model.proofs.SiteLaws.{A-one, lawful-at, lawful-all}
 use Rattle.model.proofs.RuleLaws.{S}
 use Rattle.model.proofs.PlaceLaws.{level-small, level-below-threads}
 use Rattle.model.proofs.CountsLaws.{more, counts-length, counts-opened, counts-closed, counts-woken}
-use Rattle.model.proofs.AdmitLaws.{rule, rule-sound, Lawful, free}
-
--- every rule but `settled`
-pub record Firm (rs : List Record) (cs : List Call) : Type 0 where
-  pub pass : passes six rs ≡ true
-  pub differ : (t : ℕ) → count (has t) cs ≤ 1
-  pub none-0 : count (has no-ticket) cs ≡ 0
-  pub known : (c : Call) → List·Memᴰ c cs → has-node rs (c .node) ≡ true
-  pub kept : (c : Call) → List·Memᴰ c cs → parent-kept rs cs c ≡ true
-  pub law : Lawful rs cs
-  pub few : length cs ≤ most-open
+use Rattle.model.proofs.AdmitLaws.{rule, rule-sound, free}
 
 pub keeps-firm : (net : Core) → Keeps net → Firm (net .plan) (net .calls)
 keeps-firm net k =
@@ -104,14 +94,6 @@ waits-site rs s c e = (on-site rs s c (and-left (on rs s c) (not (c .active)) e)
 
 -- Opening
 
--- what the tests of a start or a call leave of the newcomer
-pub record Newcomer (rs : List Record) (cs : List Call) (parent ticket node : ℕ) : Type 0 where
-  pub some-ticket : ticket ≡ no-ticket → ⊥
-  pub new-ticket : lookup cs ticket ≡ none
-  pub listed-node : has-node rs node ≡ true
-  pub room-left : length cs < most-open
-  pub parent-fits : (eqb parent no-ticket || parent-stands rs (lookup cs parent) node) ≡ true
-
 module _ (rs : List Record) (cs : List Call) (f : Firm rs cs) (parent ticket node : ℕ) (ok : Newcomer rs cs parent ticket node) where
   still-found : (c : Call) (p : Call) → lookup cs (c .parent) ≡ some p
       → (q : Call) × (lookup (opened rs cs parent ticket node) (c .parent) ≡ some q) × (q .node ≡ p .node) × (p .active ≡ true → q .active ≡ true)
@@ -177,12 +159,6 @@ module _ (rs : List Record) (cs : List Call) (f : Firm rs cs) (parent ticket nod
       }
 
 -- Closing
-
--- what the tests of a return leave of the call that ends
-pub record Ending (cs : List Call) (ticket : ℕ) (c : Call) : Type 0 where
-  pub stands : lookup cs ticket ≡ some c
-  pub runs : c .active ≡ true
-  pub childless : has-child cs ticket ≡ false
 
 module _ (rs : List Record) (cs : List Call) (f : Firm rs cs) (ticket : ℕ) (gone : Call) (end : Ending cs ticket gone) where
   pub in-closed : (c : Call) → List·Memᴰ c (closed cs ticket) → List·Memᴰ c cs

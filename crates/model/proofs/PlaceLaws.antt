@@ -10,7 +10,7 @@ use mathlib.Core.Option.{Option, none, some}
 use lib.Dec.{T, eqb, leb}
 use mir.Facts.{yes-and}
 use borrow.Author.Tests.{eq-eqb, le-leb}
-use Rattle.ids.specs.Limits.{most-threads}
+use Rattle.ids.specs.Limits.{sites, most-threads}
 use Rattle.lists.proofs.CountLaws.{never-both, lt-or-ge}
 use Rattle.model.specs.Plan.{Record, node, Place, place, present, threads, six, passes, descends, site-steps, listed}
 use Rattle.model.specs.Net.{has-node, site-of, level-of, site-at, level-at}
@@ -61,6 +61,12 @@ module _ (rs : List Record) where
         let ok = passes-ok rs pass in
         let w = ok .node-site n (site-of rs n) (level-of rs n) (node-record n e) in
         omega (arith, w .2, listed-threads rs (site-of rs n) (w .0) (ok .rising) (w .1))
+
+    pub site-small : (n : ℕ) → has-node rs n ≡ true → site-of rs n < sites
+    site-small n e =
+        let ok = passes-ok rs pass in
+        let w = ok .node-site n (site-of rs n) (level-of rs n) (node-record n e) in
+        ok .site-range (site-of rs n) (w .0) (w .1) .0
 
     -- every level has a place among the counts
     pub level-small : (n : ℕ) → level-of rs n < most-threads

@@ -19,10 +19,9 @@ use Rattle.model.specs.Plan.{Record, threads, six, passes}
 use Rattle.model.specs.Site.{may-admit}
 use Rattle.model.specs.Net.{Call, Core, site-of, level-of, has, lookup, ticket-of, has-child, counts, waiting-order, admissible, newcomer, opened, closed, may-wake, waker, activated, woken}
 use Rattle.model.specs.Command.{Command, start, call, return, refused, active, waiting, ended, fault, opening, serving, done, step}
-use Rattle.model.specs.NetRules.{Keeps}
+use Rattle.model.specs.NetRules.{Keeps, Ending}
 use Rattle.model.specs.Same.{Same}
 use Rattle.model.proofs.CountsLaws.{of-level, counts-alike}
-use Rattle.model.proofs.FirmLaws.{Ending}
 use Rattle.model.proofs.OrderLaws.{waker-oldest, order-opened, order-closed, order-woken, order-elsewhere, has-child-counted}
 use Rattle.model.proofs.StepLaws.{accepted-step, refused-step, return-fits}
 use Rattle.model.proofs.FreeLaws.{found-by-ticket}

@@ -18,13 +18,13 @@ use Rattle.model.specs.Site.{A, raised}
 use Rattle.model.specs.Rule.{Blocked}
 use Rattle.model.specs.Plan.{Record, threads}
 use Rattle.model.specs.Net.{Call, has-node, site-of, level-of, has, on, active-on, waits-on, counts, admissible, newcomer, opened, closed, may-wake, waker, activated, woken}
-use Rattle.model.specs.NetRules.{could-go}
+use Rattle.model.specs.NetRules.{could-go, Firm, Newcomer, Ending}
 use Rattle.model.proofs.SiteLaws.{A-one}
 use Rattle.model.proofs.RuleLaws.{D, M, X}
 use Rattle.model.proofs.PlaceLaws.{level-small}
 use Rattle.model.proofs.CountsLaws.{more, counts-length, counts-opened, counts-closed, counts-woken}
 use Rattle.model.proofs.AdmitLaws.{rule, rule-sound, Held-back, blocked, held-back}
-use Rattle.model.proofs.FirmLaws.{Firm, Newcomer, Ending, opened-firm, closed-firm, woken-firm, in-opened, in-closed, waker-fits, in-woken}
+use Rattle.model.proofs.FirmLaws.{opened-firm, closed-firm, woken-firm, in-opened, in-closed, waker-fits, in-woken}
 
 abbrev pub Settled : List Record → List Call → Type 0
 Settled rs cs = (c : Call) → List·Memᴰ c cs → could-go rs cs c ≡ false

@@ -1,0 +1,4 @@
+pub mod RoomLaws
+pub mod TableLaws
+pub mod WakeLaws
+pub mod OpenLaws

@@ -1,0 +1,34 @@
+// The commands inside a run, over the arrays that hold the open calls and the rooms. An inner crate: `net` alone calls it.
+ghost use Rattle.moves.specs.Held.{arrays, Openable, Opens};
+use ids::Site;
+
+// Opens a call at a node: active where its level may be admitted, else waiting, last at its site. Its key is 0 already where it is active.
+pub fn open(
+    tickets: &mut [u16],
+    parents: &mut [u16],
+    keys: &mut [u16],
+    nodes: &mut [u8],
+    rooms: &mut [u8],
+    used: usize,
+    parent: u16,
+    ticket: u16,
+    node: u8,
+    site: u8,
+    level: u8,
+    threads: u8,
+) -> bool
+    requires { ⌜ Openable (arrays (now tickets) (now parents) (now keys) (now nodes) (now rooms)) used parent ticket node site level threads ⌝ }
+    ensures { λ r. ⌜ Opens (arrays (now (tickets .entry)) (now (parents .entry)) (now (keys .entry)) (now (nodes .entry)) (now (rooms .entry))) (arrays (now (tickets .exit)) (now (parents .exit)) (now (keys .exit)) (now (nodes .exit)) (now (rooms .exit))) r used parent ticket node site level threads ⌝ }
+{
+    let base = Site::THREADS * site as usize;
+    let limit = rooms::limit(rooms, base, threads);
+    tickets[used] = ticket;
+    parents[used] = parent;
+    nodes[used] = node;
+    if level < limit {
+        rooms::take(rooms, base, level as usize);
+        return true;
+    }
+    keys[used] = (base + level as usize + 1) as u16;
+    false
+}
