@@ -25,6 +25,20 @@ use Rattle.moves.specs.Held.{Tells, key-of, room-byte, RoomsTell, Arrays
 use Rattle.moves.proofs.RoomLaws.{limited, rooms-limit, taking, rooms-taken}
 use Rattle.moves.proofs.TableLaws.{tells-opened, tells-opened-0}
 
+-- The limit of a site
+
+module _ {rs : List Record} {cs : List Call} {a : Arrays} {used site most : ℕ} (held : Held rs cs a used) (inside : site < sites) (threads-are : most ≡ threads rs site) where
+  pub site-limited : Limited (a .rooms) (most-threads * site) most
+  site-limited =
+      subst (Limited (a .rooms) (most-threads * site)) (sym threads-are)
+      (limited rs (counts rs cs) (a .rooms) (held .of-rooms) site inside (threads-most rs (held .firm .pass) site))
+
+  pub site-limit : first most (no-room (a .rooms) (most-threads * site)) ≡ limit-at rs cs site
+  unfolding limit-at
+  site-limit =
+      ap (λ (T : ℕ). first T (no-room (a .rooms) (most-threads * site))) threads-are
+      ∙ rooms-limit rs (counts rs cs) (a .rooms) (held .of-rooms) site inside (threads-most rs (held .firm .pass) site) (held .firm .law site)
+
 -- A node's site and level, and the limit there
 
 module _ {rs : List Record} {cs : List Call} {a : Arrays} {used : ℕ} (held : Held rs cs a used) {node site level most : ℕ} (placed : Placed rs node site level most) where
@@ -35,15 +49,10 @@ module _ {rs : List Record} {cs : List Call} {a : Arrays} {used : ℕ} (held : H
   level-inside = omega (arith, placed .level-is, level-small rs (held .firm .pass) node)
 
   pub limit-fits : Limited (a .rooms) (most-threads * site) most
-  limit-fits =
-      subst (Limited (a .rooms) (most-threads * site)) (sym (placed .threads-are))
-      (limited rs (counts rs cs) (a .rooms) (held .of-rooms) site site-inside (threads-most rs (held .firm .pass) site))
+  limit-fits = site-limited held site-inside (placed .threads-are)
 
-  pub limit-means : first most (no-room (a .rooms) (most-threads * site)) ≡ limit-at rs cs site
-  unfolding limit-at
-  limit-means =
-      ap (λ (T : ℕ). first T (no-room (a .rooms) (most-threads * site))) (placed .threads-are)
-      ∙ rooms-limit rs (counts rs cs) (a .rooms) (held .of-rooms) site site-inside (threads-most rs (held .firm .pass) site) (held .firm .law site)
+  limit-means : first most (no-room (a .rooms) (most-threads * site)) ≡ limit-at rs cs site
+  limit-means = site-limit held site-inside (placed .threads-are)
 
   -- below the limit, and only there, the node's call may be admitted
   decides : admissible rs cs node ≡ ltb level (limit-at rs cs site)
@@ -58,11 +67,11 @@ module _ {rs : List Record} {cs : List Call} {a : Arrays} {used : ℕ} (held : H
   pub holds-back : (limit : ℕ) → limit ≡ first most (no-room (a .rooms) (most-threads * site)) → limit ≤ level → admissible rs cs node ≡ false
   holds-back limit e h = decides ∙ le-ltb level (limit-at rs cs site) (omega (arith, limit-means))
 
-  level-under : level < threads rs site
+  pub level-under : level < threads rs site
   level-under =
       omega (arith, level-below-threads rs (held .firm .pass) node (placed .known), placed .level-is, ap (threads rs) (placed .site-is))
 
-  level-long : level < length (counts rs cs site)
+  pub level-long : level < length (counts rs cs site)
   level-long = omega (arith, level-inside, counts-length rs site cs)
 
   pub take-fits : admissible rs cs node ≡ true → Taking (a .rooms) (most-threads * site) level

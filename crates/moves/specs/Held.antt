@@ -1,6 +1,6 @@
 -- What the arrays inside a run hold: the open calls of a net, number by number, and the rooms of its sites. For the contracts of `moves`.
 -- Assumes nothing.
-use Prim.Native.Nat.{ℕ, _+_, _*_, _<_}
+use Prim.Native.Nat.{ℕ, _+_, _-_, _*_, _<_}
 use mathlib.Core.Path.{_≡_}
 use mathlib.Core.Bool.{Bool, true, cond}
 use mathlib.Core.List.{List}
@@ -11,7 +11,7 @@ use Rattle.ids.specs.Limits.{sites, most-threads, most-open}
 use Rattle.lists.specs.Pick.{tell, place-of}
 use Rattle.model.specs.Site.{room}
 use Rattle.model.specs.Plan.{Record, threads}
-use Rattle.model.specs.Net.{Call, has-node, site-of, level-of, has, lookup, counts, admissible, opened, closed, woken}
+use Rattle.model.specs.Net.{Call, has-node, site-of, level-of, has, lookup, counts, ticket-of, admissible, opened, closed, waker, woken}
 use Rattle.model.specs.NetRules.{Book, Firm, Newcomer, Ending}
 
 -- an array holds a number of each open call, in their order, and zeros behind them
@@ -84,3 +84,34 @@ abbrev pub Opens : Arrays → Arrays → Bool → ℕ → ℕ → ℕ → ℕ �
 Opens a b active used parent ticket node site level most =
     (rs : List Record) (cs : List Call) → CanOpen rs cs a used parent ticket node site level most
     → (active ≡ admissible rs cs node) × Held rs (opened rs cs parent ticket node) b (used + 1)
+
+-- a call that may be closed, at a place of the table, with the site and the level of its node
+pub record CanClose (rs : List Record) (cs : List Call) (ticket : ℕ) (gone : Call) (a : Arrays) (used at site level : ℕ) : Type 0 where
+  pub held : Held rs cs a used
+  pub ending : Ending cs ticket gone
+  pub place : at ≡ place-of (has ticket) cs
+  pub site-is : site ≡ site-of rs (gone .node)
+  pub level-is : level ≡ level-of rs (gone .node)
+
+abbrev pub Closable : Arrays → ℕ → ℕ → ℕ → ℕ → Type 0
+Closable a used at site level =
+    (rs : List Record) × (cs : List Call) × (ticket : ℕ) × (gone : Call) × CanClose rs cs ticket gone a used at site level
+
+abbrev pub Closes : Arrays → Arrays → ℕ → ℕ → ℕ → ℕ → Type 0
+Closes a b used at site level =
+    (rs : List Record) (cs : List Call) (ticket : ℕ) (gone : Call) → CanClose rs cs ticket gone a used at site level
+    → Held rs (closed cs ticket) b (used - 1)
+
+-- a site whose oldest waiter that may be admitted is to be served
+pub record CanServe (rs : List Record) (cs : List Call) (a : Arrays) (used site most : ℕ) : Type 0 where
+  pub held : Held rs cs a used
+  pub site-inside : site < sites
+  pub threads-are : most ≡ threads rs site
+
+abbrev pub Servable : Arrays → ℕ → ℕ → ℕ → Type 0
+Servable a used site most = (rs : List Record) × (cs : List Call) × CanServe rs cs a used site most
+
+abbrev pub Serves : Arrays → Arrays → ℕ → ℕ → ℕ → ℕ → Type 0
+Serves a b ticket used site most =
+    (rs : List Record) (cs : List Call) → CanServe rs cs a used site most
+    → (ticket ≡ ticket-of (waker rs cs site)) × Held rs (woken rs cs site) b used
