@@ -21,3 +21,7 @@ no-ticket = 0
 -- "At most 256 call edges"
 abbrev pub most-edges : ℕ
 most-edges = 256
+
+-- "At most 256 open calls in the net"
+abbrev pub most-open : ℕ
+most-open = 256

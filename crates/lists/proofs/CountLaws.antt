@@ -93,6 +93,7 @@ every-all (suc n) f h = and-both (every n f) (f n) (every-all n f (λ k l. h k (
 
 -- The least number of which a test holds
 pub first-le : (n : ℕ) (f : ℕ → Bool) → first n f ≤ n
+unfolding first
 first-le zero f = zero-le
 first-le (suc n) f = go (f 0) (first-le n (λ k. f (suc k)))
   where
@@ -101,6 +102,7 @@ first-le (suc n) f = go (f 0) (first-le n (λ k. f (suc k)))
     go false ih = suc-le-suc ih
 
 pub first-holds : (n : ℕ) (f : ℕ → Bool) → first n f < n → f (first n f) ≡ true
+unfolding first
 first-holds zero f h = absurd (not-suc-le-zero h)
 first-holds (suc n) f h = go (f 0) refl h (first-holds n (λ k. f (suc k)))
   where
@@ -112,6 +114,7 @@ first-holds (suc n) f h = go (f 0) refl h (first-holds n (λ k. f (suc k)))
     go false e l ih = ih (le-of-suc-le-suc l)
 
 pub first-before : (n : ℕ) (f : ℕ → Bool) (k : ℕ) → k < first n f → f k ≡ false
+unfolding first
 first-before zero f k h = absurd (not-suc-le-zero h)
 first-before (suc n) f k h = go (f 0) refl k h (first-before n (λ j. f (suc j)))
   where

@@ -2,12 +2,12 @@
 -- Assumes nothing.
 use Prim.Native.Nat.{ℕ, _+_, _≤_, _<_}
 use native.Mathlib.Omega.{arith}
-use mathlib.Core.Path.{_≡_, refl, subst, _∙_}
+use mathlib.Core.Path.{_≡_, refl, ap, subst, _∙_}
 use mathlib.Core.Logic.{⊎-elim}
 use mathlib.Core.List.{List}
 use lib.ListN.{length, getD, set, length-set}
 use lib.Seq.{getD-set-same, getD-set-other}
-use Rattle.lists.specs.Fill.{Filled}
+use Rattle.lists.specs.Fill.{Filled, each}
 use Rattle.lists.proofs.CountLaws.{lt-or-ge}
 
 pub filled-none : (f : ℕ → ℕ) (from : ℕ) (old : List ℕ) → Filled f from from old old
@@ -34,3 +34,11 @@ filled-to {f} {from} {to} {end} {old} {new} e w = subst (λ (m : ℕ). Filled f 
 
 pub filled-of : {f : ℕ → ℕ} {from to : ℕ} {old older new : List ℕ} → old ≡ older → Filled f from to old new → Filled f from to older new
 filled-of {f} {from} {to} {old} {older} {new} e w = subst (λ (l : List ℕ). Filled f from to l new) e w
+
+-- the next entry changed where it stands
+pub filled-each : (change : ℕ → ℕ) {old new : List ℕ} {base : ℕ} (k : ℕ) → base + k < length old → Filled (each change old) base (base + k) old new
+    → Filled (each change old) base (base + (k + 1)) old (set new (base + k) (change (getD new (base + k) 0)))
+unfolding each
+filled-each change {old} {new} {base} k h w =
+    filled-more (each change old) base (base + k) (base + (k + 1)) old new (change (getD new (base + k) 0)) (omega arith) (omega arith) h
+    (ap change (w .outside (base + k) (λ p q. omega arith))) w

@@ -1,2 +1,5 @@
 pub mod CountLaws
 pub mod FillLaws
+pub mod PickLaws
+pub mod BlockLaws
+pub mod TellLaws

@@ -1,6 +1,6 @@
 -- Tests over the numbers below a bound, and sums of a list. Assumes nothing.
 use Prim.Native.Nat.{ℕ, zero, suc, _+_}
-use mathlib.Core.Bool.{Bool, true, false, _&&_, cond}
+use mathlib.Core.Bool.{Bool, true, false, _&&_, _||_, cond}
 use mathlib.Core.List.{List, [], _∷_}
 
 -- the sum of a list
@@ -14,9 +14,14 @@ every zero f = true
 every (suc n) f = every n f && f n
 
 -- the least number below n of which the test holds, or n where there is none
-abbrev pub first : ℕ → (ℕ → Bool) → ℕ
+unfoldable pub first : ℕ → (ℕ → Bool) → ℕ
 first zero f = 0
 first (suc n) f = cond (f 0) 0 (suc (first n (λ k. f (suc k))))
+
+-- the test holds of some number below n
+unfoldable pub some : ℕ → (ℕ → Bool) → Bool
+some zero f = false
+some (suc n) f = some n f || f n
 
 -- 1 for a test that is passed, else 0
 abbrev pub one : Bool → ℕ

@@ -1,9 +1,10 @@
--- The tellings of the site book's answers are injective, so that a promise through one determines the answer: the telling's entries show the
+-- The tellings of the site book's and the commands' answers are injective, so that a promise through one determines the answer: the telling's entries show the
 -- case and its values. Assumes nothing.
 use mathlib.Core.Path.{_≡_, refl, ap, ap₂}
 use Prim.Native.Nat.{ℕ, suc}
 use native.Mathlib.Omega.{arith}
 use Rattle.model.specs.Answers.{toldLevel, toldAdmission, toldRoom}
+use Rattle.model.specs.Command.{Answer, refused, active, waiting, ended, told}
 use Rattle.model.specs.declared.LevelAnswer.{LevelAnswer}
 use Rattle.model.specs.declared.AdmissionAnswer.{AdmissionAnswer}
 use Rattle.model.specs.declared.RoomAnswer.{RoomAnswer}
@@ -44,3 +45,21 @@ room-injective RoomAnswer.NoSuchLevel RoomAnswer.Refused e = let z : _≡_ {A = 
 room-injective RoomAnswer.Refused (RoomAnswer.Room m) e = cc
 room-injective RoomAnswer.Refused RoomAnswer.NoSuchLevel e = let z : _≡_ {A = ℕ} 255 30 = cc in absurd (omega arith)
 room-injective RoomAnswer.Refused RoomAnswer.Refused e = refl
+
+pub told-injective : (x y : Answer) → told x ≡ told y → x ≡ y
+told-injective (refused n) (refused m) e = let q : n ≡ m = cc in ap refused q
+told-injective (refused n) active e = cc
+told-injective (refused n) waiting e = cc
+told-injective (refused n) (ended u) e = cc
+told-injective active (refused m) e = cc
+told-injective active active e = refl
+told-injective active waiting e = let z : _≡_ {A = ℕ} 1 0 = cc in absurd (omega arith)
+told-injective active (ended u) e = cc
+told-injective waiting (refused m) e = cc
+told-injective waiting active e = let z : _≡_ {A = ℕ} 0 1 = cc in absurd (omega arith)
+told-injective waiting waiting e = refl
+told-injective waiting (ended u) e = cc
+told-injective (ended t) (refused m) e = cc
+told-injective (ended t) active e = cc
+told-injective (ended t) waiting e = cc
+told-injective (ended t) (ended u) e = let q : t ≡ u = cc in ap ended q

@@ -8,6 +8,7 @@ use lib.Dec.{eqb}
 use borrow.Author.Tests.{eqb-true}
 use Rattle.lists.proofs.CountLaws.{never-both, and-left, and-right}
 use Rattle.ids.specs.Made.{Told}
+use Rattle.lists.specs.Count.{first}
 use Rattle.model.specs.Site.{A, lawful, raised, may-admit, full, limit, refused}
 use Rattle.model.specs.Answers.{firmware, admission-answer}
 use Rattle.model.specs.LevelSheet.{Case, site, call, plan, counts, Holds, table}
@@ -57,7 +58,7 @@ all-pass [] e = tt
 all-pass (c ∷ cs) e = (passes c (and-left (test c) (tests cs) e), all-pass cs (and-right (test c) (tests cs) e))
 
 computed : tests table ≡ true
-unfolding tests test told-is firmware admission-answer may-admit refused limit lawful full A raised read read-on next
+unfolding first tests test told-is firmware admission-answer may-admit refused limit lawful full A raised read read-on next
     threads place calls edges follows in-range known level-below room-for record-fault site-steps listed
     closed-backwards loops self-depends end-fault bytes-of
 computed = refl

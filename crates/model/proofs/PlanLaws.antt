@@ -49,7 +49,7 @@ listed-calls (edge e f ∷ rs) c d m =
     (List·Memᴰ·cases-cons m)
 
 -- a node with a record is listed
-node-listed : (rs : List Record) (n s l : ℕ) → List·Memᴰ (node n s l) rs → List·Memᴰ n (listed rs)
+pub node-listed : (rs : List Record) (n s l : ℕ) → List·Memᴰ (node n s l) rs → List·Memᴰ n (listed rs)
 unfolding listed
 node-listed [] n s l m = absurd (List·Memᴰ·not-nil m)
 node-listed (site r t ∷ rs) n s l m = node-listed rs n s l (past (λ e. omega arith) m)

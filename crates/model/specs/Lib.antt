@@ -12,3 +12,13 @@ pub mod Records
 pub mod PlanValue
 pub mod PlanFault
 pub mod LevelSheet
+pub mod Net
+pub mod Command
+pub mod NetRules
+pub mod Text
+pub mod Transcript
+pub mod Tally
+pub mod ProgramCase
+pub mod Same
+pub mod Useless
+pub mod Demands

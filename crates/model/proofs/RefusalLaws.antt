@@ -1,0 +1,39 @@
+-- When each number of the commands' table is given: its test fails and every test before it passes, and the tests stand in document 01's order.
+-- From the law of lists of tests, computed once a command. Assumes nothing.
+use Prim.Native.Nat.{ℕ}
+use mathlib.Core.Path.{_≡_, refl}
+use mathlib.Core.Logic.{_↔_}
+use mathlib.Core.Bool.{Bool, true}
+use mathlib.Core.List.{map, List·Memᴰ}
+use Rattle.lists.specs.Pick.{all}
+use Rattle.lists.proofs.PickLaws.{all-at}
+use Rattle.model.specs.Faults.{Given}
+use Rattle.model.specs.Net.{Core}
+use Rattle.model.specs.Command.{Command, start, call, return, tests, order, fault}
+use Rattle.model.proofs.FaultLaws.{lone, first-fault-is}
+
+-- "Order for a start: 20, 21, 22, 26. For a call: 20, 21, 23, 24, 22, 25, 26. For a return: 27, 28, 29"
+pub in-order : (net : Core) (c : Command) → map (λ (t : Bool × ℕ). t .1) (tests net c) ≡ order c
+in-order net (start ticket node) = refl
+in-order net (call parent ticket node) = refl
+in-order net (return ticket) = refl
+
+each-alone : (net : Core) (c : Command) → all (λ n. lone n (tests net c)) (order c) ≡ true
+unfolding all
+each-alone net (start ticket node) = refl
+each-alone net (call parent ticket node) = refl
+each-alone net (return ticket) = refl
+
+-- a number is "given exactly when" its test fails and each test before it passes; 0, no refusal, when all pass
+pub given-exactly : (net : Core) (c : Command) (n : ℕ) → List·Memᴰ n (order c) → (fault net c ≡ n) ↔ Given n (tests net c)
+unfolding fault
+given-exactly net c n m = first-fault-is n (tests net c) (all-at (λ k. lone k (tests net c)) (order c) (each-alone net c) n m)
+
+pub accepted-when : (net : Core) (c : Command) → (fault net c ≡ 0) ↔ Given 0 (tests net c)
+unfolding fault
+accepted-when net c = first-fault-is 0 (tests net c) (no-zero c)
+  where
+    no-zero : (d : Command) → lone 0 (tests net d) ≡ true
+    no-zero (start ticket node) = refl
+    no-zero (call parent ticket node) = refl
+    no-zero (return ticket) = refl

@@ -1,0 +1,101 @@
+-- What `moves::close` does to the arrays: the gap at the call's place closes, and the rooms of its level and below gain one. Assumes nothing.
+use Prim.Native.Nat.{ℕ, suc, _+_, _-_, _*_, _≤_, _<_}
+use native.Mathlib.Omega.{arith}
+use mathlib.Core.Path.{_≡_, refl, sym, ap, subst, _∙_}
+use mathlib.Core.Bool.{Bool, true, _&&_}
+use mathlib.Core.List.{List}
+use lib.ListN.{length}
+use lib.Dec.{eqb}
+use borrow.Author.Tests.{eq-eqb, ne-eqb}
+use Rattle.ids.specs.Limits.{sites, most-threads, most-open}
+use Rattle.lists.specs.Fill.{Filled, each}
+use Rattle.lists.proofs.PickLaws.{found-in, length-without}
+use Rattle.lists.proofs.TellLaws.{place-inside}
+use Rattle.model.specs.Site.{raised}
+use Rattle.model.specs.Plan.{Record, threads}
+use Rattle.model.specs.Net.{Call, has-node, site-of, level-of, has, on, active-on, counts, closed}
+use Rattle.model.specs.NetRules.{Firm, Ending}
+use Rattle.model.proofs.PlaceLaws.{threads-most, site-small, level-small, level-below-threads}
+use Rattle.model.proofs.CountsLaws.{more, counts-length, counts-closed}
+use Rattle.model.proofs.FirmLaws.{closed-firm}
+use Rattle.table.specs.Places.{Gap, Closings}
+use Rattle.rooms.specs.Rooms.{one-more, Giving}
+use Rattle.moves.specs.Held.{Arrays, arrays, Held, CanClose}
+use Rattle.moves.proofs.RoomLaws.{giving, rooms-given}
+use Rattle.moves.proofs.TableLaws.{tells-table, tells-closed}
+
+module _ {rs : List Record} {cs : List Call} {ticket : ℕ} {gone : Call} {a : Arrays} {used at site level : ℕ} (ok : CanClose rs cs ticket gone a used at site level) where
+  known : has-node rs (gone .node) ≡ true
+  known = ok .held .firm .known gone (found-in (has ticket) cs gone (ok .ending .stands) .0)
+
+  pub site-inside : site < sites
+  site-inside = omega (arith, ok .site-is, site-small rs (ok .held .firm .pass) (gone .node) known)
+
+  pub at-inside : at < used
+  at-inside = omega (arith, ok .place, ok .held .count, place-inside (has ticket) cs gone (ok .ending .stands))
+
+  pub gap : Gap (a .tickets) (a .parents) (a .keys) (a .nodes) at used
+  gap =
+      let few = ok .held .firm .few in
+      let count = ok .held .count in
+      record {
+        tickets-table = tells-table (ok .held .of-tickets) count few;
+        parents-table = tells-table (ok .held .of-parents) count few;
+        keys-table = tells-table (ok .held .of-keys) count few;
+        nodes-table = tells-table (ok .held .of-nodes) count few;
+        taken = at-inside;
+      }
+
+  counts-before : (s : ℕ) → counts rs cs s ≡ more (active-on rs s gone) (counts rs (closed cs ticket) s) (level-of rs (gone .node))
+  unfolding closed
+  counts-before s = counts-closed rs s (ok .held .firm .pass) (has ticket) cs gone (ok .ending .stands)
+
+  had-one-more : counts rs cs site ≡ raised (counts rs (closed cs ticket) site) level
+  unfolding active-on on
+  had-one-more =
+      counts-before site
+      ∙ ap (λ (b : Bool). more (b && gone .active) (counts rs (closed cs ticket) site) (level-of rs (gone .node)))
+      (eq-eqb (site-of rs (gone .node)) site (sym (ok .site-is)))
+      ∙ ap (λ (b : Bool). more b (counts rs (closed cs ticket) site) (level-of rs (gone .node))) (ok .ending .runs)
+      ∙ ap (raised (counts rs (closed cs ticket) site)) (sym (ok .level-is))
+
+  others-same : (s : ℕ) → (s ≡ site → ⊥) → counts rs (closed cs ticket) s ≡ counts rs cs s
+  unfolding active-on on
+  others-same s apart =
+      sym (counts-before s
+      ∙ ap (λ (b : Bool). more (b && gone .active) (counts rs (closed cs ticket) s) (level-of rs (gone .node)))
+      (ne-eqb (site-of rs (gone .node)) s (λ q. apart (sym q ∙ sym (ok .site-is)))))
+
+  level-under : level < threads rs site
+  level-under =
+      omega (arith, level-below-threads rs (ok .held .firm .pass) (gone .node) known, ok .level-is, ap (threads rs) (ok .site-is))
+
+  level-long : level < length (counts rs (closed cs ticket) site)
+  level-long = omega (arith, ok .level-is, level-small rs (ok .held .firm .pass) (gone .node), counts-length rs site (closed cs ticket))
+
+  pub give-fits : Giving (a .rooms) (most-threads * site) level
+  give-fits =
+      giving rs (counts rs cs) (a .rooms) (ok .held .of-rooms) site site-inside (threads-most rs (ok .held .firm .pass) site)
+      (counts rs (closed cs ticket)) level level-under level-long (ok .held .firm .law site) had-one-more
+
+  fewer-used : used - 1 ≡ length (closed cs ticket)
+  unfolding closed
+  fewer-used = omega (arith, ok .held .count, length-without (has ticket) cs gone (ok .ending .stands))
+
+  pub closed-held : {tickets parents keys nodes rooms : List ℕ} → Closings at used (a .tickets) (a .parents) (a .keys) (a .nodes) tickets parents keys nodes
+      → Filled (each one-more (a .rooms)) (most-threads * site) (most-threads * site + (level + 1)) (a .rooms) rooms
+      → Held rs (closed cs ticket) (arrays tickets parents keys nodes rooms) (used - 1)
+  unfolding closed
+  closed-held {rooms = rooms} shut filled =
+      let h = ok .held in
+      record {
+        of-tickets = tells-closed (has ticket) at used (h .of-tickets) (h .count) (ok .place) (shut .of-tickets);
+        of-parents = tells-closed (has ticket) at used (h .of-parents) (h .count) (ok .place) (shut .of-parents);
+        of-keys = tells-closed (has ticket) at used (h .of-keys) (h .count) (ok .place) (shut .of-keys);
+        of-nodes = tells-closed (has ticket) at used (h .of-nodes) (h .count) (ok .place) (shut .of-nodes);
+        of-rooms =
+            rooms-given rs (counts rs cs) (a .rooms) (h .of-rooms) site site-inside (threads-most rs (h .firm .pass) site)
+            (counts rs (closed cs ticket)) level level-under level-long (h .firm .law site) had-one-more rooms filled others-same;
+        count = fewer-used;
+        firm = closed-firm rs cs (h .firm) ticket gone (ok .ending);
+      }

@@ -1,0 +1,61 @@
+// The rooms of each site and level inside a run, T - k - A[k], 255 at or above T: a level is full where its room is 0. An admission takes one from the
+// rooms of its level and those below it, and a return gives it back. The room of level k of a site stands at `base` + k. An inner crate: `moves` and
+// `net` alone call it.
+ghost use mathlib.Core.Path.{_≡_};
+ghost use mathlib.Core.Bool.{cond};
+ghost use Prim.Native.Nat.{_+_, min};
+ghost use lib.Dec.{eqb};
+ghost use Rattle.lists.specs.Count.{first};
+ghost use Rattle.lists.specs.Fill.{Filled, each};
+ghost use Rattle.rooms.specs.Rooms.{no-room, one-less, one-more, Taking, Giving, Limited};
+use ids::Site;
+
+// A thread is taken by a call of a level.
+pub fn take(rooms: &mut [u8], base: usize, level: usize)
+    requires { ⌜ Taking (now rooms) base level ⌝ }
+    ensures { λ _. ⌜ Filled (each one-less (now (rooms .entry))) base (base + (level + 1)) (now (rooms .entry)) (now (rooms .exit)) ⌝ }
+{
+    for k in 0..level + 1 {
+        rooms[base + k] = rooms[base + k] - 1;
+    }
+}
+
+// A thread comes back from a call of a level.
+pub fn give(rooms: &mut [u8], base: usize, level: usize)
+    requires { ⌜ Giving (now rooms) base level ⌝ }
+    ensures { λ _. ⌜ Filled (each one-more (now (rooms .entry))) base (base + (level + 1)) (now (rooms .entry)) (now (rooms .exit)) ⌝ }
+{
+    for k in 0..level + 1 {
+        rooms[base + k] = rooms[base + k] + 1;
+    }
+}
+
+fn smaller(a: u8, b: u8) -> u8
+    ensures { λ r. ⌜ r ≡ min a b ⌝ }
+{
+    if a < b { a } else { b }
+}
+
+// The level where it is full, else the threads.
+fn if_full(room: u8, level: u8, threads: u8) -> u8
+    ensures { λ r. ⌜ r ≡ cond (eqb room 0) level threads ⌝ }
+{
+    if room == 0 {
+        return level;
+    }
+    threads
+}
+
+// The lowest full level, or the threads where no level is full: how many levels are admissible. All levels are looked at, without an exit.
+pub fn limit(rooms: &[u8], base: usize, threads: u8) -> u8
+    requires { ⌜ Limited (now rooms) base threads ⌝ }
+    ensures { λ r. ⌜ r ≡ first threads (no-room (now (rooms .entry)) base) ⌝ }
+{
+    let mut low = threads;
+    let mut level: u8 = 0;
+    for k in 0..Site::THREADS {
+        low = smaller(low, if_full(rooms[base + k], level, threads));
+        level += 1;
+    }
+    low
+}
