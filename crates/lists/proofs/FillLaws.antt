@@ -7,7 +7,7 @@ use mathlib.Core.Logic.{⊎-elim}
 use mathlib.Core.List.{List}
 use lib.ListN.{length, getD, set, length-set}
 use lib.Seq.{getD-set-same, getD-set-other}
-use Rattle.lists.specs.Fill.{Filled, each}
+use Rattle.lists.specs.Fill.{Filled, renewed}
 use Rattle.lists.proofs.CountLaws.{lt-or-ge}
 
 pub filled-none : (f : ℕ → ℕ) (from : ℕ) (old : List ℕ) → Filled f from from old old
@@ -36,9 +36,9 @@ pub filled-of : {f : ℕ → ℕ} {from to : ℕ} {old older new : List ℕ} →
 filled-of {f} {from} {to} {old} {older} {new} e w = subst (λ (l : List ℕ). Filled f from to l new) e w
 
 -- the next entry changed where it stands
-pub filled-each : (change : ℕ → ℕ) {old new : List ℕ} {base : ℕ} (k : ℕ) → base + k < length old → Filled (each change old) base (base + k) old new
-    → Filled (each change old) base (base + (k + 1)) old (set new (base + k) (change (getD new (base + k) 0)))
-unfolding each
+pub filled-each : (change : ℕ → ℕ) {old new : List ℕ} {base : ℕ} (k : ℕ) → base + k < length old → Filled (renewed change old) base (base + k) old new
+    → Filled (renewed change old) base (base + (k + 1)) old (set new (base + k) (change (getD new (base + k) 0)))
+unfolding renewed
 filled-each change {old} {new} {base} k h w =
-    filled-more (each change old) base (base + k) (base + (k + 1)) old new (change (getD new (base + k) 0)) (omega arith) (omega arith) h
+    filled-more (renewed change old) base (base + k) (base + (k + 1)) old new (change (getD new (base + k) 0)) (omega arith) (omega arith) h
     (ap change (w .outside (base + k) (λ p q. omega arith))) w

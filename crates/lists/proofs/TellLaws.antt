@@ -11,7 +11,7 @@ use lib.ListN.{length}
 use lib.Dec.{eqb, ltb, leb, eqb·suc-suc, eqb·zero-suc, eqb·suc-zero, leb·suc-suc}
 use borrow.Author.Tests.{eq-eqb, ne-eqb, lt-ltb, le-ltb, eqb-true, eqb-false}
 use Rattle.lists.specs.Count.{first, some as holds-below}
-use Rattle.lists.specs.Pick.{any, found, without, changed, tell, passes-at, place-of}
+use Rattle.lists.specs.Pick.{any, found, without, changed, tell, passes-at, first-place}
 use Rattle.lists.proofs.CountLaws.{decided, never-both, or-left, or-right, first-none}
 use Rattle.lists.proofs.BlockLaws.{some-none, none-some}
 
@@ -43,30 +43,30 @@ module _ {A : Type 0} where
 
   -- The first that passes
 
-  pub place-inside : (f : A → Bool) (xs : List A) (y : A) → found f xs ≡ some y → place-of f xs < length xs
-  unfolding found place-of
+  pub place-inside : (f : A → Bool) (xs : List A) (y : A) → found f xs ≡ some y → first-place f xs < length xs
+  unfolding found first-place
   place-inside f [] y e = let z : _≡_ {A = ℕ} 0 1 = cc in absurd (omega arith)
   place-inside f (x ∷ xs) y e = go (f x) e (place-inside f xs y)
     where
-      go : (b : Bool) → cond b (some x) (found f xs) ≡ some y → (found f xs ≡ some y → place-of f xs < length xs) → cond b 0 (suc (place-of f xs)) < suc (length xs)
+      go : (b : Bool) → cond b (some x) (found f xs) ≡ some y → (found f xs ≡ some y → first-place f xs < length xs) → cond b 0 (suc (first-place f xs)) < suc (length xs)
       go true h ih = omega arith
       go false h ih = omega (arith, ih h)
 
-  pub tell-place : (g : A → ℕ) (f : A → Bool) (xs : List A) (y : A) → found f xs ≡ some y → tell g xs (place-of f xs) ≡ g y
-  unfolding found place-of tell
+  pub tell-place : (g : A → ℕ) (f : A → Bool) (xs : List A) (y : A) → found f xs ≡ some y → tell g xs (first-place f xs) ≡ g y
+  unfolding found first-place tell
   tell-place g f [] y e = let z : _≡_ {A = ℕ} 0 1 = cc in absurd (omega arith)
   tell-place g f (x ∷ xs) y e = go (f x) e (tell-place g f xs y)
     where
-      go : (b : Bool) → cond b (some x) (found f xs) ≡ some y → (found f xs ≡ some y → tell g xs (place-of f xs) ≡ g y)
-          → tell g (x ∷ xs) (cond b 0 (suc (place-of f xs))) ≡ g y
+      go : (b : Bool) → cond b (some x) (found f xs) ≡ some y → (found f xs ≡ some y → tell g xs (first-place f xs) ≡ g y)
+          → tell g (x ∷ xs) (cond b 0 (suc (first-place f xs))) ≡ g y
       go true h ih = let same : x ≡ y = cc in ap g same
       go false h ih = ih h
 
   -- One entry less: what stands behind it moves up
 
   pub tell-without : (g : A → ℕ) (f : A → Bool) (xs : List A) (i : ℕ)
-      → tell g (without f xs) i ≡ cond (ltb i (place-of f xs)) (tell g xs i) (tell g xs (suc i))
-  unfolding without place-of tell
+      → tell g (without f xs) i ≡ cond (ltb i (first-place f xs)) (tell g xs i) (tell g xs (suc i))
+  unfolding without first-place tell
   tell-without g f [] i = go (ltb i 0)
     where
       go : (b : Bool) → _≡_ {A = ℕ} 0 (cond b 0 0)
@@ -74,35 +74,35 @@ module _ {A : Type 0} where
       go false = refl
   tell-without g f (x ∷ xs) zero = go (f x)
     where
-      go : (b : Bool) → tell g (cond b xs (x ∷ without f xs)) 0 ≡ cond (ltb 0 (cond b 0 (suc (place-of f xs)))) (g x) (tell g xs 0)
+      go : (b : Bool) → tell g (cond b xs (x ∷ without f xs)) 0 ≡ cond (ltb 0 (cond b 0 (suc (first-place f xs)))) (g x) (tell g xs 0)
       go true = refl
-      go false = rw (lt-ltb 0 (suc (place-of f xs)) (omega arith))
+      go false = rw (lt-ltb 0 (suc (first-place f xs)) (omega arith))
   tell-without g f (x ∷ xs) (suc i) = go (f x) (tell-without g f xs i)
     where
-      go : (b : Bool) → tell g (without f xs) i ≡ cond (ltb i (place-of f xs)) (tell g xs i) (tell g xs (suc i))
-          → tell g (cond b xs (x ∷ without f xs)) (suc i) ≡ cond (ltb (suc i) (cond b 0 (suc (place-of f xs)))) (tell g xs i) (tell g xs (suc i))
+      go : (b : Bool) → tell g (without f xs) i ≡ cond (ltb i (first-place f xs)) (tell g xs i) (tell g xs (suc i))
+          → tell g (cond b xs (x ∷ without f xs)) (suc i) ≡ cond (ltb (suc i) (cond b 0 (suc (first-place f xs)))) (tell g xs i) (tell g xs (suc i))
       go true ih = rw (le-ltb (suc i) 0 (omega arith))
-      go false ih = ih ∙ ap (λ (b : Bool). cond b (tell g xs i) (tell g xs (suc i))) (sym (leb·suc-suc (suc i) (place-of f xs)))
+      go false ih = ih ∙ ap (λ (b : Bool). cond b (tell g xs i) (tell g xs (suc i))) (sym (leb·suc-suc (suc i) (first-place f xs)))
 
   -- One entry changed where it stands
 
   pub tell-changed : (g : A → ℕ) (h : A → A) (f : A → Bool) (xs : List A) (y : A) → found f xs ≡ some y → (i : ℕ)
-      → tell g (changed h f xs) i ≡ cond (eqb i (place-of f xs)) (g (h y)) (tell g xs i)
-  unfolding found changed place-of tell
+      → tell g (changed h f xs) i ≡ cond (eqb i (first-place f xs)) (g (h y)) (tell g xs i)
+  unfolding found changed first-place tell
   tell-changed g h f [] y e i = let z : _≡_ {A = ℕ} 0 1 = cc in absurd (omega arith)
   tell-changed g h f (x ∷ xs) y e zero = go (f x) e
     where
       go : (b : Bool) → cond b (some x) (found f xs) ≡ some y
-          → tell g (cond b (h x ∷ xs) (x ∷ changed h f xs)) 0 ≡ cond (eqb 0 (cond b 0 (suc (place-of f xs)))) (g (h y)) (g x)
+          → tell g (cond b (h x ∷ xs) (x ∷ changed h f xs)) 0 ≡ cond (eqb 0 (cond b 0 (suc (first-place f xs)))) (g (h y)) (g x)
       go true q = let same : x ≡ y = cc in ap (λ (z : A). g (h z)) same
-      go false q = rw (eqb·zero-suc (place-of f xs))
+      go false q = rw (eqb·zero-suc (first-place f xs))
   tell-changed g h f (x ∷ xs) y e (suc i) = go (f x) e (λ q. tell-changed g h f xs y q i)
     where
       go : (b : Bool) → cond b (some x) (found f xs) ≡ some y
-          → (found f xs ≡ some y → tell g (changed h f xs) i ≡ cond (eqb i (place-of f xs)) (g (h y)) (tell g xs i))
-          → tell g (cond b (h x ∷ xs) (x ∷ changed h f xs)) (suc i) ≡ cond (eqb (suc i) (cond b 0 (suc (place-of f xs)))) (g (h y)) (tell g xs i)
+          → (found f xs ≡ some y → tell g (changed h f xs) i ≡ cond (eqb i (first-place f xs)) (g (h y)) (tell g xs i))
+          → tell g (cond b (h x ∷ xs) (x ∷ changed h f xs)) (suc i) ≡ cond (eqb (suc i) (cond b 0 (suc (first-place f xs)))) (g (h y)) (tell g xs i)
       go true q ih = rw (eqb·suc-zero i)
-      go false q ih = ih q ∙ ap (λ (b : Bool). cond b (g (h y)) (tell g xs i)) (sym (eqb·suc-suc i (place-of f xs)))
+      go false q ih = ih q ∙ ap (λ (b : Bool). cond b (g (h y)) (tell g xs i)) (sym (eqb·suc-suc i (first-place f xs)))
 
   -- a change that a number does not see
   pub tell-blind : (g : A → ℕ) (h : A → A) (f : A → Bool) (xs : List A) → ((x : A) → g (h x) ≡ g x) → (i : ℕ) → tell g (changed h f xs) i ≡ tell g xs i
@@ -128,14 +128,14 @@ module _ {A : Type 0} where
   passes-past f (x ∷ xs) (suc i) h = passes-past f xs i (omega arith)
 
   -- the first place that passes is that of the first entry that does, or the bound where there is none
-  pub first-passes : (f : A → Bool) (xs : List A) (n : ℕ) → length xs ≤ n → first n (passes-at f xs) ≡ cond (any f xs) (place-of f xs) n
-  unfolding first passes-at any place-of
+  pub first-passes : (f : A → Bool) (xs : List A) (n : ℕ) → length xs ≤ n → first n (passes-at f xs) ≡ cond (any f xs) (first-place f xs) n
+  unfolding first passes-at any first-place
   first-passes f [] n h = first-none n (passes-at f []) (λ j l. refl)
   first-passes f (x ∷ xs) zero h = absurd (omega arith)
   first-passes f (x ∷ xs) (suc n) h = go (f x) (any f xs) (first-passes f xs n (omega arith))
     where
-      go : (b c : Bool) → first n (passes-at f xs) ≡ cond c (place-of f xs) n
-          → cond b 0 (suc (first n (passes-at f xs))) ≡ cond (b || c) (cond b 0 (suc (place-of f xs))) (suc n)
+      go : (b c : Bool) → first n (passes-at f xs) ≡ cond c (first-place f xs) n
+          → cond b 0 (suc (first n (passes-at f xs))) ≡ cond (b || c) (cond b 0 (suc (first-place f xs))) (suc n)
       go true c ih = refl
       go false true ih = ap suc ih
       go false false ih = ap suc ih

@@ -11,5 +11,5 @@ pub record Filled (f : ℕ → ℕ) (from to : ℕ) (old new : List ℕ) : Type 
   pub outside : (n : ℕ) → (from ≤ n → n < to → ⊥) → getD new n 0 ≡ getD old n 0
 
 -- what a change of one number makes of an entry
-unfoldable pub each : (ℕ → ℕ) → List ℕ → ℕ → ℕ
-each change old i = change (getD old i 0)
+unfoldable pub renewed : (ℕ → ℕ) → List ℕ → ℕ → ℕ
+renewed change old i = change (getD old i 0)

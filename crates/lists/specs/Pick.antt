@@ -54,6 +54,6 @@ module _ {A : Type 0} where
   passes-at f (x ∷ xs) (suc i) = passes-at f xs i
 
   -- the place of the first that passes, or the length
-  unfoldable pub place-of : (A → Bool) → List A → ℕ
-  place-of f [] = 0
-  place-of f (x ∷ xs) = cond (f x) 0 (suc (place-of f xs))
+  unfoldable pub first-place : (A → Bool) → List A → ℕ
+  first-place f [] = 0
+  first-place f (x ∷ xs) = cond (f x) 0 (suc (first-place f xs))

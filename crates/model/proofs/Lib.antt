@@ -26,5 +26,5 @@ pub mod NetRuleLaws
 pub mod TextLaws
 pub mod SameLaws
 pub mod Useless
-pub mod RefusalLaws
+pub mod GivenLaws
 pub mod Demands

@@ -13,7 +13,7 @@ use borrow.Author.Tests.{eq-eqb, le-leb}
 use Rattle.ids.specs.Limits.{sites, most-threads}
 use Rattle.lists.proofs.CountLaws.{never-both, lt-or-ge}
 use Rattle.model.specs.Plan.{Record, node, Place, place, present, threads, six, passes, descends, site-steps, listed}
-use Rattle.model.specs.Net.{has-node, site-of, level-of, site-at, level-at}
+use Rattle.model.specs.Net.{has-node, site-of, level-of, place-site, place-level}
 use Rattle.model.proofs.GraphLaws.{yes}
 use Rattle.model.proofs.RecordLaws.{threads-listed, listed-threads, place-listed, passes-ok}
 use Rattle.model.proofs.PlanLaws.{node-listed}
@@ -24,7 +24,7 @@ module _ (rs : List Record) where
   unfolding has-node site-of level-of
   placed n e = go (place rs n) e
     where
-      go : (o : Option Place) → present o ≡ true → o ≡ some (record { at = site-at o; level = level-at o })
+      go : (o : Option Place) → present o ≡ true → o ≡ some (record { at = place-site o; level = place-level o })
       go none f = absurd (never-both f refl)
       go (some p) f = refl
 
@@ -73,7 +73,7 @@ module _ (rs : List Record) where
     unfolding has-node level-of
     level-small n = go (place rs n) refl
       where
-        go : (o : Option Place) → place rs n ≡ o → level-at o < most-threads
+        go : (o : Option Place) → place rs n ≡ o → place-level o < most-threads
         go none e = omega arith
         go (some p) e =
             let ok = passes-ok rs pass in

@@ -68,7 +68,7 @@ tests net (start ticket node) = start-tests (net .plan) (net .calls) ticket node
 tests net (call parent ticket node) = call-tests (net .plan) (net .calls) parent ticket node
 tests net (return ticket) = return-tests (net .calls) ticket
 
--- 01's order lines by themselves (`in-order`, of RefusalLaws)
+-- 01's order lines by themselves (`in-order`, of GivenLaws)
 abbrev pub order : Command → List ℕ
 order (start ticket node) = 20 ∷ 21 ∷ 22 ∷ 26 ∷ []
 order (call parent ticket node) = 20 ∷ 21 ∷ 23 ∷ 24 ∷ 22 ∷ 25 ∷ 26 ∷ []

@@ -34,20 +34,20 @@ empty-net rs = record { plan = rs; calls = [] }
 unfoldable pub has-node : List Record → ℕ → Bool
 has-node rs n = present (place rs n)
 
-abbrev pub site-at : Option Place → ℕ
-site-at none = nowhere
-site-at (some p) = p .at
+abbrev pub place-site : Option Place → ℕ
+place-site none = nowhere
+place-site (some p) = p .at
 
-abbrev pub level-at : Option Place → ℕ
-level-at none = 0
-level-at (some p) = p .level
+abbrev pub place-level : Option Place → ℕ
+place-level none = 0
+place-level (some p) = p .level
 
 -- the site and the level of a node
 unfoldable pub site-of : List Record → ℕ → ℕ
-site-of rs n = site-at (place rs n)
+site-of rs n = place-site (place rs n)
 
 unfoldable pub level-of : List Record → ℕ → ℕ
-level-of rs n = level-at (place rs n)
+level-of rs n = place-level (place rs n)
 
 -- Calls
 

@@ -8,7 +8,7 @@ use lib.ListN.{length}
 use lib.Dec.{eqb}
 use borrow.Author.Tests.{eq-eqb, ne-eqb}
 use Rattle.ids.specs.Limits.{sites, most-threads, most-open}
-use Rattle.lists.specs.Fill.{Filled, each}
+use Rattle.lists.specs.Fill.{Filled, renewed}
 use Rattle.lists.proofs.PickLaws.{found-in, length-without}
 use Rattle.lists.proofs.TellLaws.{place-inside}
 use Rattle.model.specs.Site.{raised}
@@ -83,7 +83,7 @@ module _ {rs : List Record} {cs : List Call} {ticket : ℕ} {gone : Call} {a : A
   fewer-used = omega (arith, ok .held .count, length-without (has ticket) cs gone (ok .ending .stands))
 
   pub closed-held : {tickets parents keys nodes rooms : List ℕ} → Closings at used (a .tickets) (a .parents) (a .keys) (a .nodes) tickets parents keys nodes
-      → Filled (each one-more (a .rooms)) (most-threads * site) (most-threads * site + (level + 1)) (a .rooms) rooms
+      → Filled (renewed one-more (a .rooms)) (most-threads * site) (most-threads * site + (level + 1)) (a .rooms) rooms
       → Held rs (closed cs ticket) (arrays tickets parents keys nodes rooms) (used - 1)
   unfolding closed
   closed-held {rooms = rooms} shut filled =

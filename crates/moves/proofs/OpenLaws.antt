@@ -11,7 +11,7 @@ use lib.Dec.{ltb, eqb}
 use borrow.Author.Tests.{lt-ltb, le-ltb, eq-eqb, ne-eqb}
 use Rattle.ids.specs.Limits.{sites, most-threads, most-open}
 use Rattle.lists.specs.Count.{first}
-use Rattle.lists.specs.Fill.{Filled, each}
+use Rattle.lists.specs.Fill.{Filled, renewed}
 use Rattle.model.specs.Site.{lawful, raised}
 use Rattle.model.specs.Plan.{Record, threads}
 use Rattle.model.specs.Net.{Call, site-of, level-of, on, active-on, counts, admissible, limit-at, newcomer, opened}
@@ -146,7 +146,7 @@ module _ {rs : List Record} {cs : List Call} {a : Arrays} {used parent ticket no
       go false = refl
 
   pub opened-active : admissible rs cs node ≡ true → (rooms : List ℕ)
-      → Filled (each one-less (a .rooms)) (most-threads * site) (most-threads * site + (level + 1)) (a .rooms) rooms
+      → Filled (renewed one-less (a .rooms)) (most-threads * site) (most-threads * site + (level + 1)) (a .rooms) rooms
       → Held rs (opened rs cs parent ticket node) (arrays (set (a .tickets) used ticket) (set (a .parents) used parent) (a .keys) (set (a .nodes) used node) rooms) (used + 1)
   unfolding opened newcomer key-of
   opened-active e rooms filled =

@@ -11,7 +11,7 @@ use lib.Dec.{ltb, leb, eqb}
 use borrow.Author.Tests.{lt-ltb, le-ltb, le-leb, lt-leb, eq-eqb, ne-eqb, eqb-true, eqb-false}
 use Rattle.ids.specs.Limits.{sites, most-threads}
 use Rattle.lists.specs.Count.{one, first}
-use Rattle.lists.specs.Fill.{Filled, each}
+use Rattle.lists.specs.Fill.{Filled, renewed}
 use Rattle.lists.proofs.CountLaws.{decided, never-both, lt-or-ge, same-test, first-le, first-holds, first-before, first-is, first-none}
 use Rattle.lists.proofs.TellLaws.{first-same}
 use Rattle.model.specs.Site.{A, lawful, raised, full, limit, room}
@@ -72,7 +72,7 @@ module _ (rs : List Record) (book : Book) (rooms : List ℕ) (tells : RoomsTell 
     rooms-limit law = first-same T (no-room rooms base) (full T (book s)) (full-room law)
 
     -- what has changed at this site alone
-    elsewhere-same : (after : List ℕ) (next : Book) (change : ℕ → ℕ) (i : ℕ) → i < most-threads → Filled (each change rooms) base (base + (i + 1)) rooms after
+    elsewhere-same : (after : List ℕ) (next : Book) (change : ℕ → ℕ) (i : ℕ) → i < most-threads → Filled (renewed change rooms) base (base + (i + 1)) rooms after
         → ((r : ℕ) → (r ≡ s → ⊥) → next r ≡ book r)
         → ((k : ℕ) → k < most-threads → getD after (base + k) 0 ≡ room-byte T (next s) k)
         → RoomsTell rs next after
@@ -110,9 +110,9 @@ module _ (rs : List Record) (book : Book) (rooms : List ℕ) (tells : RoomsTell 
           }
 
       -- the rooms of level i and below are one less here, and all others as they were
-      pub rooms-taken : (after : List ℕ) (next : Book) → Filled (each one-less rooms) base (base + (i + 1)) rooms after
+      pub rooms-taken : (after : List ℕ) (next : Book) → Filled (renewed one-less rooms) base (base + (i + 1)) rooms after
           → ((r : ℕ) → (r ≡ s → ⊥) → next r ≡ book r) → next s ≡ raised (book s) i → RoomsTell rs next after
-      unfolding each
+      unfolding renewed
       rooms-taken after next filled others raised-here =
           elsewhere-same after next one-less i (omega arith) filled others
           (λ k h. at k h (lt-or-ge i k) ∙ ap (λ (a : List ℕ). room-byte T a k) (sym raised-here))
@@ -152,9 +152,9 @@ module _ (rs : List Record) (book : Book) (rooms : List ℕ) (tells : RoomsTell 
             not-most = λ k h. omega (arith, now-is k (omega arith), byte-below T (raised (next s) i) k (omega arith));
           }
 
-      pub rooms-given : (after : List ℕ) → Filled (each one-more rooms) base (base + (i + 1)) rooms after
+      pub rooms-given : (after : List ℕ) → Filled (renewed one-more rooms) base (base + (i + 1)) rooms after
           → ((r : ℕ) → (r ≡ s → ⊥) → next r ≡ book r) → RoomsTell rs next after
-      unfolding each
+      unfolding renewed
       rooms-given after filled others = elsewhere-same after next one-more i (omega arith) filled others (λ k h. at k h (lt-or-ge i k))
         where
           at : (k : ℕ) → k < most-threads → (i < k) ⊎ (k ≤ i) → getD after (base + k) 0 ≡ room-byte T (next s) k

@@ -11,8 +11,8 @@ use lib.Dec.{eqb}
 use borrow.Author.Tests.{eq-eqb, ne-eqb}
 use Rattle.ids.specs.Limits.{sites, most-threads, most-open, no-ticket}
 use Rattle.lists.specs.Count.{first}
-use Rattle.lists.specs.Fill.{Filled, each}
-use Rattle.lists.specs.Pick.{any, place-of}
+use Rattle.lists.specs.Fill.{Filled, renewed}
+use Rattle.lists.specs.Pick.{any, first-place}
 use Rattle.lists.proofs.PickLaws.{changed-none, length-changed}
 use Rattle.lists.proofs.TellLaws.{place-inside, any-found, any-not-found}
 use Rattle.model.specs.Site.{raised}
@@ -33,7 +33,7 @@ use Rattle.moves.proofs.OpenLaws.{site-limit, take-fits, level-under, l
 -- whom a return finds at a place of the table, or nobody
 pub data Wakes (rs : List Record) (cs : List Call) (site at : ℕ) : Type 0 where
   nobody : waker rs cs site ≡ none → at ≡ most-open → Wakes rs cs site at
-  somebody : (d : Call) → waker rs cs site ≡ some d → at ≡ place-of (may-wake rs cs site) cs → at < length cs → Wakes rs cs site at
+  somebody : (d : Call) → waker rs cs site ≡ some d → at ≡ first-place (may-wake rs cs site) cs → at < length cs → Wakes rs cs site at
 
 module _ {rs : List Record} {cs : List Call} {a : Arrays} {used site most : ℕ} (ok : CanServe rs cs a used site most) where
   -- the limit lies within the levels
@@ -45,7 +45,7 @@ module _ {rs : List Record} {cs : List Call} {a : Arrays} {used site most : ℕ}
   unfolding waker
   wakes limit at e q = go (waker rs cs site) refl
     where
-      where-is : at ≡ cond (any (may-wake rs cs site) cs) (place-of (may-wake rs cs site) cs) most-open
+      where-is : at ≡ cond (any (may-wake rs cs site) cs) (first-place (may-wake rs cs site) cs) most-open
       where-is =
           q
           ∙ ap (λ (l : ℕ). first most-open (between (a .keys) (most-threads * site) (most-threads * site + l)))
@@ -53,10 +53,10 @@ module _ {rs : List Record} {cs : List Call} {a : Arrays} {used site most : ℕ}
           ∙ waiter-is rs cs (ok .held .firm) (ok .held .of-keys) site
 
       go : (o : Option Call) → waker rs cs site ≡ o → Wakes rs cs site at
-      go none h = nobody h (where-is ∙ ap (λ (b : Bool). cond b (place-of (may-wake rs cs site) cs) most-open) (any-not-found (may-wake rs cs site) cs h))
+      go none h = nobody h (where-is ∙ ap (λ (b : Bool). cond b (first-place (may-wake rs cs site) cs) most-open) (any-not-found (may-wake rs cs site) cs h))
       go (some d) h =
-          let here : at ≡ place-of (may-wake rs cs site) cs =
-          where-is ∙ ap (λ (b : Bool). cond b (place-of (may-wake rs cs site) cs) most-open) (any-found (may-wake rs cs site) cs d h)
+          let here : at ≡ first-place (may-wake rs cs site) cs =
+          where-is ∙ ap (λ (b : Bool). cond b (first-place (may-wake rs cs site) cs) most-open) (any-found (may-wake rs cs site) cs d h)
           in
           somebody d h here (omega (arith, place-inside (may-wake rs cs site) cs d h))
 
@@ -65,7 +65,7 @@ module _ {rs : List Record} {cs : List Call} {a : Arrays} {used site most : ℕ}
   nobody-woken e = subst (λ (ds : List Call). Held rs ds a used) (sym (changed-none activated (may-wake rs cs site) cs e)) (ok .held)
 
   -- the one that is woken
-  module _ (d : Call) (at : ℕ) (chosen : waker rs cs site ≡ some d) (here : at ≡ place-of (may-wake rs cs site) cs) where
+  module _ (d : Call) (at : ℕ) (chosen : waker rs cs site ≡ some d) (here : at ≡ first-place (may-wake rs cs site) cs) where
     abbrev level : ℕ
     level = level-of rs (d .node)
 
@@ -103,7 +103,7 @@ module _ {rs : List Record} {cs : List Call} {a : Arrays} {used site most : ℕ}
         counts-woken rs s (ok .held .firm .pass) (may-wake rs cs site) cs d chosen (w .2)
         ∙ ap (λ (b : Bool). more b (counts rs cs s) level) (ne-eqb (site-of rs (d .node)) s (λ q. apart (sym q ∙ w .1)))
 
-    pub woken-held : (rooms : List ℕ) → Filled (each one-less (a .rooms)) (most-threads * site) (most-threads * site + (level + 1)) (a .rooms) rooms
+    pub woken-held : (rooms : List ℕ) → Filled (renewed one-less (a .rooms)) (most-threads * site) (most-threads * site + (level + 1)) (a .rooms) rooms
         → Held rs (woken rs cs site) (arrays (a .tickets) (a .parents) (set (a .keys) at 0) (a .nodes) rooms) used
     unfolding waker woken key-of
     woken-held rooms filled =
@@ -132,7 +132,7 @@ module _ {rs : List Record} {cs : List Call} {a : Arrays} {used site most : ℕ}
   pub record Chosen : Type 0 where
     pub who : Call
     pub chosen : waker rs cs site ≡ some who
-    pub here : at ≡ place-of (may-wake rs cs site) cs
+    pub here : at ≡ first-place (may-wake rs cs site) cs
     pub inside : at < most-open
     pub key-told : getD (a .keys) at 0 ≡ most-threads * site + level-of rs (who .node) + 1
     pub level-told : level-of rs (who .node) ≡ told-level
@@ -158,13 +158,13 @@ module _ {rs : List Record} {cs : List Call} {a : Arrays} {used site most : ℕ}
   pub chosen-takes : Chosen → Taking (a .rooms) (most-threads * site) told-level
   chosen-takes w = subst (Taking (a .rooms) (most-threads * site)) (w .level-told) (wake-takes ok (w .who) at (w .chosen) (w .here))
 
-  pub served : Chosen → (rooms : List ℕ) → Filled (each one-less (a .rooms)) (most-threads * site) (most-threads * site + (told-level + 1)) (a .rooms) rooms
+  pub served : Chosen → (rooms : List ℕ) → Filled (renewed one-less (a .rooms)) (most-threads * site) (most-threads * site + (told-level + 1)) (a .rooms) rooms
       → (getD (a .tickets) at 0 ≡ ticket-of (waker rs cs site))
       × Held rs (woken rs cs site) (arrays (a .tickets) (a .parents) (set (a .keys) at 0) (a .nodes) rooms) used
   served w rooms filled = (
     ticket-is ok (w .who) at (w .chosen) (w .here) ∙ sym (ap ticket-of (w .chosen)),
     woken-held ok (w .who) at (w .chosen) (w .here) rooms
-        (subst (λ (l : ℕ). Filled (each one-less (a .rooms)) (most-threads * site) (most-threads * site + (l + 1)) (a .rooms) rooms) (sym (w .level-told)) filled),
+        (subst (λ (l : ℕ). Filled (renewed one-less (a .rooms)) (most-threads * site) (most-threads * site + (l + 1)) (a .rooms) rooms) (sym (w .level-told)) filled),
   )
 
   pub unserved : at ≡ most-open → (no-ticket ≡ ticket-of (waker rs cs site)) × Held rs (woken rs cs site) a used

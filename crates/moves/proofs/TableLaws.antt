@@ -14,7 +14,7 @@ use lib.Dec.{ltb, leb, eqb}
 use borrow.Author.Tests.{eq-eqb, ne-eqb, eqb-true, lt-ltb, le-ltb, lt-leb, le-leb, eqb-false}
 use Rattle.ids.specs.Limits.{most-threads, most-open}
 use Rattle.lists.specs.Count.{first, some as holds-below}
-use Rattle.lists.specs.Pick.{any, found, without, changed, tell, passes-at, place-of}
+use Rattle.lists.specs.Pick.{any, found, without, changed, tell, passes-at, first-place}
 use Rattle.lists.proofs.CountLaws.{decided, never-both, lt-or-ge}
 use Rattle.lists.proofs.TellLaws.{first-same, some-same, tell-past, tell-more, place-inside, tell-place, tell-without, tell-changed, tell-blind, first-passes, some-passes, any-found, any-not-found}
 use Rattle.model.specs.Plan.{Record}
@@ -64,7 +64,7 @@ tells-opened-0 {g} {cs} {numbers} c t zero-there = record { whole = t .whole; ea
 -- Closing
 
 pub tells-closed : {g : Call → ℕ} {cs : List Call} {numbers after : List ℕ} (f : Call → Bool) (at used : ℕ) → Tells g cs numbers → used ≡ length cs
-    → at ≡ place-of f cs → Closing at used numbers after → Tells g (without f cs) after
+    → at ≡ first-place f cs → Closing at used numbers after → Tells g (without f cs) after
 unfolding next-of
 tells-closed {g} {cs} {numbers} {after} f at used t e here closing = record { whole = closing .long ∙ t .whole; each = each-place }
   where
@@ -73,10 +73,10 @@ tells-closed {g} {cs} {numbers} {after} f at used t e here closing = record { wh
         ⊎-elim
         (λ (p : i < at).
         closing .outside i (λ a b. omega arith) ∙ t .each i
-        ∙ sym (tell-without g f cs i ∙ ap (λ (b : Bool). cond b (tell g cs i) (tell g cs (suc i))) (lt-ltb i (place-of f cs) (omega arith))))
+        ∙ sym (tell-without g f cs i ∙ ap (λ (b : Bool). cond b (tell g cs i) (tell g cs (suc i))) (lt-ltb i (first-place f cs) (omega arith))))
         (λ (p : at ≤ i).
         behind i p
-        ∙ sym (tell-without g f cs i ∙ ap (λ (b : Bool). cond b (tell g cs i) (tell g cs (suc i))) (le-ltb i (place-of f cs) (omega arith))))
+        ∙ sym (tell-without g f cs i ∙ ap (λ (b : Bool). cond b (tell g cs i) (tell g cs (suc i))) (le-ltb i (first-place f cs) (omega arith))))
         (lt-or-ge i at)
       where
         behind : (i : ℕ) → at ≤ i → getD after i 0 ≡ tell g cs (suc i)
@@ -90,21 +90,21 @@ tells-closed {g} {cs} {numbers} {after} f at used t e here closing = record { wh
 -- Waking
 
 pub tells-changed : {g : Call → ℕ} {cs : List Call} {numbers : List ℕ} (h : Call → Call) (f : Call → Bool) (c : Call) (at v : ℕ) → Tells g cs numbers
-    → length cs ≤ most-open → found f cs ≡ some c → at ≡ place-of f cs → v ≡ g (h c) → Tells g (changed h f cs) (set numbers at v)
+    → length cs ≤ most-open → found f cs ≡ some c → at ≡ first-place f cs → v ≡ g (h c) → Tells g (changed h f cs) (set numbers at v)
 tells-changed {g} {cs} {numbers} h f c at v t few e here same = record { whole = length-set numbers at v ∙ t .whole; each = each-place }
   where
     each-place : (i : ℕ) → getD (set numbers at v) i 0 ≡ tell g (changed h f cs) i
     each-place i =
         ⊎-elim
         (λ q.
-        let there : at ≡ i = here ∙ sym (eqb-true i (place-of f cs) q) in
+        let there : at ≡ i = here ∙ sym (eqb-true i (first-place f cs) q) in
         subst (λ (j : ℕ). getD (set numbers at v) j 0 ≡ v) there (getD-set-same numbers at v 0 (omega (arith, t .whole, place-inside f cs c e)))
         ∙ same ∙ sym (tell-changed g h f cs c e i ∙ ap (λ (b : Bool). cond b (g (h c)) (tell g cs i)) q))
         (λ q.
-        let apart = eqb-false i (place-of f cs) q in
+        let apart = eqb-false i (first-place f cs) q in
         getD-set-other numbers at i v 0 (λ p. apart (p ∙ here)) ∙ t .each i
         ∙ sym (tell-changed g h f cs c e i ∙ ap (λ (b : Bool). cond b (g (h c)) (tell g cs i)) q))
-        (decided (eqb i (place-of f cs)))
+        (decided (eqb i (first-place f cs)))
 
 pub tells-blind : {g : Call → ℕ} {cs : List Call} {numbers : List ℕ} (h : Call → Call) (f : Call → Bool) → ((c : Call) → g (h c) ≡ g c) → Tells g cs numbers
     → Tells g (changed h f cs) numbers
@@ -122,7 +122,7 @@ holds-passes g wanted f (c ∷ cs) pos same (suc i) = holds-passes g wanted f cs
 
 module _ {cs : List Call} {tickets : List ℕ} (t : Tells (λ c. c .ticket) cs tickets) (few : length cs ≤ most-open) (wanted : ℕ) (some-number : 0 < wanted) where
   -- the first place of a ticket, or none
-  pub find-is : first most-open (holds tickets wanted) ≡ cond (any (has wanted) cs) (place-of (has wanted) cs) most-open
+  pub find-is : first most-open (holds tickets wanted) ≡ cond (any (has wanted) cs) (first-place (has wanted) cs) most-open
   unfolding holds has
   find-is =
       first-same most-open (holds tickets wanted) (passes-at (has wanted) cs)
@@ -140,25 +140,25 @@ child-is {cs} {parents} t few wanted some-number =
 -- Who is found by a ticket: at a place of the table, or nowhere
 pub data Found-at (cs : List Call) (ticket at : ℕ) : Type 0 where
   nowhere : lookup cs ticket ≡ none → at ≡ most-open → Found-at cs ticket at
-  there : (c : Call) → lookup cs ticket ≡ some c → at ≡ place-of (has ticket) cs → at < length cs → Found-at cs ticket at
+  there : (c : Call) → lookup cs ticket ≡ some c → at ≡ first-place (has ticket) cs → at < length cs → Found-at cs ticket at
 
 pub found-at : {cs : List Call} {tickets : List ℕ} → Tells (λ c. c .ticket) cs tickets → length cs ≤ most-open → (wanted at : ℕ) → 0 < wanted
     → at ≡ first most-open (holds tickets wanted) → Found-at cs wanted at
 found-at {cs} t few wanted at pos e = go (lookup cs wanted) refl
   where
-    where-is : at ≡ cond (any (has wanted) cs) (place-of (has wanted) cs) most-open
+    where-is : at ≡ cond (any (has wanted) cs) (first-place (has wanted) cs) most-open
     where-is = e ∙ find-is t few wanted pos
 
     go : (o : Option Call) → lookup cs wanted ≡ o → Found-at cs wanted at
-    go none q = nowhere q (where-is ∙ ap (λ (b : Bool). cond b (place-of (has wanted) cs) most-open) (any-not-found (has wanted) cs q))
+    go none q = nowhere q (where-is ∙ ap (λ (b : Bool). cond b (first-place (has wanted) cs) most-open) (any-not-found (has wanted) cs q))
     go (some c) q =
-        let here : at ≡ place-of (has wanted) cs =
-        where-is ∙ ap (λ (b : Bool). cond b (place-of (has wanted) cs) most-open) (any-found (has wanted) cs c q)
+        let here : at ≡ first-place (has wanted) cs =
+        where-is ∙ ap (λ (b : Bool). cond b (first-place (has wanted) cs) most-open) (any-found (has wanted) cs c q)
         in
         there c q here (omega (arith, place-inside (has wanted) cs c q))
 
 -- the numbers of the call at a place
 pub told-there : {g : Call → ℕ} {cs : List Call} {numbers : List ℕ} (f : Call → Bool) (c : Call) (at : ℕ) → Tells g cs numbers
-    → found f cs ≡ some c → at ≡ place-of f cs → getD numbers at 0 ≡ g c
+    → found f cs ≡ some c → at ≡ first-place f cs → getD numbers at 0 ≡ g c
 told-there {g} {cs} {numbers} f c at t e here =
-    ap (λ (i : ℕ). getD numbers i 0) here ∙ t .each (place-of f cs) ∙ tell-place g f cs c e
+    ap (λ (i : ℕ). getD numbers i 0) here ∙ t .each (first-place f cs) ∙ tell-place g f cs c e

@@ -11,7 +11,7 @@ use lib.Dec.{ltb, leb, eqb}
 use borrow.Author.Tests.{eq-eqb, ne-eqb, eqb-true, eqb-false, lt-ltb, le-ltb, lt-leb, le-leb, ltb-true, leb-true}
 use Rattle.ids.specs.Limits.{most-threads, most-open}
 use Rattle.lists.specs.Count.{first}
-use Rattle.lists.specs.Pick.{any, tell, passes-at, place-of}
+use Rattle.lists.specs.Pick.{any, tell, passes-at, first-place}
 use Rattle.lists.proofs.CountLaws.{and-left, and-right, and-both, same-test, first-le}
 use Rattle.lists.proofs.TellLaws.{first-same, first-passes}
 use Rattle.model.specs.Site.{limit, full}
@@ -84,7 +84,7 @@ module _ (rs : List Record) (cs : List Call) (f : Firm rs cs) where
   -- the first key between the two is that of the waiter who is served
   pub waiter-is : {keys : List ℕ} → Tells (key-of rs) cs keys → (s : ℕ)
       → first most-open (between keys (most-threads * s) (most-threads * s + limit-at rs cs s))
-      ≡ cond (any (may-wake rs cs s) cs) (place-of (may-wake rs cs s) cs) most-open
+      ≡ cond (any (may-wake rs cs s) cs) (first-place (may-wake rs cs s) cs) most-open
   unfolding between
   waiter-is {keys} t s =
       first-same most-open (between keys (most-threads * s) (most-threads * s + limit-at rs cs s)) (passes-at (may-wake rs cs s) cs)

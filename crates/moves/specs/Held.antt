@@ -8,7 +8,7 @@ use mathlib.Core.Option.{some}
 use lib.ListN.{length, getD}
 use lib.Dec.{ltb}
 use Rattle.ids.specs.Limits.{sites, most-threads, most-open}
-use Rattle.lists.specs.Pick.{tell, place-of}
+use Rattle.lists.specs.Pick.{tell, first-place}
 use Rattle.model.specs.Site.{room}
 use Rattle.model.specs.Plan.{Record, threads}
 use Rattle.model.specs.Net.{Call, has-node, site-of, level-of, has, lookup, counts, ticket-of, admissible, opened, closed, waker, woken}
@@ -89,7 +89,7 @@ Opens a b active used parent ticket node site level most =
 pub record CanClose (rs : List Record) (cs : List Call) (ticket : ℕ) (gone : Call) (a : Arrays) (used at site level : ℕ) : Type 0 where
   pub held : Held rs cs a used
   pub ending : Ending cs ticket gone
-  pub place : at ≡ place-of (has ticket) cs
+  pub place : at ≡ first-place (has ticket) cs
   pub site-is : site ≡ site-of rs (gone .node)
   pub level-is : level ≡ level-of rs (gone .node)
 

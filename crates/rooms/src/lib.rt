@@ -6,14 +6,14 @@ ghost use mathlib.Core.Bool.{cond};
 ghost use Prim.Native.Nat.{_+_, min};
 ghost use lib.Dec.{eqb};
 ghost use Rattle.lists.specs.Count.{first};
-ghost use Rattle.lists.specs.Fill.{Filled, each};
+ghost use Rattle.lists.specs.Fill.{Filled, renewed};
 ghost use Rattle.rooms.specs.Rooms.{no-room, one-less, one-more, Taking, Giving, Limited};
 use ids::Site;
 
 // A thread is taken by a call of a level.
 pub fn take(rooms: &mut [u8], base: usize, level: usize)
     requires { ⌜ Taking (now rooms) base level ⌝ }
-    ensures { λ _. ⌜ Filled (each one-less (now (rooms .entry))) base (base + (level + 1)) (now (rooms .entry)) (now (rooms .exit)) ⌝ }
+    ensures { λ _. ⌜ Filled (renewed one-less (now (rooms .entry))) base (base + (level + 1)) (now (rooms .entry)) (now (rooms .exit)) ⌝ }
 {
     for k in 0..level + 1 {
         rooms[base + k] = rooms[base + k] - 1;
@@ -23,7 +23,7 @@ pub fn take(rooms: &mut [u8], base: usize, level: usize)
 // A thread comes back from a call of a level.
 pub fn give(rooms: &mut [u8], base: usize, level: usize)
     requires { ⌜ Giving (now rooms) base level ⌝ }
-    ensures { λ _. ⌜ Filled (each one-more (now (rooms .entry))) base (base + (level + 1)) (now (rooms .entry)) (now (rooms .exit)) ⌝ }
+    ensures { λ _. ⌜ Filled (renewed one-more (now (rooms .entry))) base (base + (level + 1)) (now (rooms .entry)) (now (rooms .exit)) ⌝ }
 {
     for k in 0..level + 1 {
         rooms[base + k] = rooms[base + k] + 1;

@@ -1,7 +1,7 @@
 -- `rooms::give` meets its contract. The loop's invariant: the rooms of the first k levels are one more. Assumes nothing.
 use Prim.Native.Nat.{_+_, _-_, _≤_}
 use native.Mathlib.Omega.{arith}
-use Rattle.lists.specs.Fill.{Filled, each}
+use Rattle.lists.specs.Fill.{Filled, renewed}
 use Rattle.lists.proofs.FillLaws.{filled-none, filled-each, filled-to}
 use Rattle.rooms.specs.Rooms.{one-more}
 use borrow.Author.Needs.{needs}
@@ -9,7 +9,7 @@ use Rattle.rooms.proofs.give.Statement.{statement}
 use Rattle.rooms.proofs.give.Tie as tie
 
 abbrev Inv-loop : tie.InvT-loop
-Inv-loop rooms₀ base level k₀ k-end rooms k = (k ≤ level + 1) × Filled (each one-more rooms₀) base (base + k) rooms₀ rooms
+Inv-loop rooms₀ base level k₀ k-end rooms k = (k ≤ level + 1) × Filled (renewed one-more rooms₀) base (base + k) rooms₀ rooms
 
 abbrev μ-loop : tie.MeasureT-loop
 μ-loop rooms₀ base level k₀ k-end rooms k = level + 1 - k
