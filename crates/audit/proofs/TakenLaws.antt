@@ -1,11 +1,11 @@
 -- One record more: behind a fault it changes nothing, and else its check over the plan so far is the records' own, so that the first fault is its
 -- own and the stored plan holds it. Assumes nothing.
-use Prim.Native.Nat.{ℕ, _+_, _<_, _≤_, min}
+use Prim.Native.Nat.{ℕ, _+_, _<_, min}
 use native.Mathlib.Numerals.{add-one}
 use mathlib.Core.Path.{_≡_, refl, sym, ap, ap₂, subst, _∙_}
 use mathlib.Core.List.{List, [], _∷_}
 use lib.ListN.{length, getD}
-use borrow.Author.Tests.{lt-ltb, le-ltb, eq-eqb, ne-eqb}
+use borrow.Author.Tests.{eq-eqb, ne-eqb}
 use Rattle.ids.specs.Limits.{sites, nodes, most-edges}
 use Rattle.lists.proofs.CountLaws.{getD-inside}
 use Rattle.model.specs.Plan.{Record, site, node, edge}
@@ -108,17 +108,17 @@ module _ (p : Plan) where
     at = getD-inside (p .places) n nowhere 0 inside
 
     module _ {old new : Audit} (so : Taken (nodes-to p n) old) where
-      pub node-more : (took : Audit) → getD (p .places) n 0 < sites
+      pub node-more : (took : Audit) → (getD (p .places) n 0 ≡ nowhere → ⊥)
           → Takes old (PlanRecord.Node (record { 0 = n }) (record { 0 = getD (p .places) n 0 }) (record { 0 = getD (p .levels) n 0 })) took
           → new ≡ took → Taken (nodes-to p (n + 1)) new
       unfolding nodes-to
       node-more took listed how same =
           let s = getD (p .places) n 0 in
-          more so (node n s (getD (p .levels) n 0)) (nodes-to p (n + 1)) (rw (add-one, at, lt-ltb s sites listed)) took how same
+          more so (node n s (getD (p .levels) n 0)) (nodes-to p (n + 1)) (rw (add-one, at, ne-eqb s nowhere listed)) took how same
 
-      pub node-none : sites ≤ getD (p .places) n 0 → new ≡ old → Taken (nodes-to p (n + 1)) new
+      pub node-none : getD (p .places) n 0 ≡ nowhere → new ≡ old → Taken (nodes-to p (n + 1)) new
       unfolding nodes-to
-      node-none none same = no-more so (nodes-to p (n + 1)) (rw (add-one, at, le-ltb (getD (p .places) n 0) sites none)) same
+      node-none none same = no-more so (nodes-to p (n + 1)) (rw (add-one, at, eq-eqb (getD (p .places) n 0) nowhere none)) same
 
   pub edge-more : (i : ℕ) (old took : Audit) → Taken (edges-to p i) old
       → Takes old (PlanRecord.Edge (record { 0 = getD (p .callers) i 0 }) (record { 0 = getD (p .callees) i 0 })) took

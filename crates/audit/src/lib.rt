@@ -72,7 +72,7 @@ fn take_nodes(plan: Plan) -> Audit
     let mut audit = take_sites(plan);
     for n in 0..Node::COUNT {
         let place = plan.places[n];
-        if (place as usize) < Site::COUNT {
+        if place != Plan::NOWHERE {
             let level = plan.levels[n];
             audit = take(
                 audit,

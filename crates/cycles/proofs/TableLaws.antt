@@ -17,7 +17,7 @@ use mathlib.Core.Logic.{⊎-elim}
 use Rattle.lists.proofs.CountLaws.{lt-or-ge, decided, never-both, and-left, and-right, and-both, getD-inside}
 use Rattle.ids.specs.Limits.{sites, nodes, most-edges}
 use Rattle.model.specs.Plan.{Place, calls, site-steps, descends}
-use Rattle.model.specs.PlanValue.{nowhere, edge-records, records-of, held}
+use Rattle.model.specs.PlanValue.{nowhere, somewhere, edge-records, records-of, held}
 use Rattle.model.specs.declared.Plan.{Plan}
 use Rattle.model.proofs.PlanValueLaws.{Sized, calls-of, place-of}
 use Rattle.graph.specs.Tables.{lit, on}
@@ -90,21 +90,18 @@ module _ (p : Plan) (sized : Sized p) (n m : ℕ) (hn : n < nodes) where
   its-site = getD-inside (p .places) n 0 nowhere (omega (arith, sized .places))
 
   -- from a node without a record there is none
-  step-nowhere : sites ≤ getD (p .places) n 0 → site-steps (records-of p) n m ≡ false
+  step-nowhere : somewhere (getD (p .places) n 0) ≡ false → site-steps (records-of p) n m ≡ false
   unfolding held
-  step-nowhere h = steps-held ∙ rw (le-ltb (getD (p .places) n nowhere) sites (omega (arith, its-site)))
+  step-nowhere h = steps-held ∙ rw (sym (ap somewhere its-site) ∙ h)
 
-  module _ (hm : m < nodes) (low : getD (p .places) n 0 < sites) where
+  module _ (hm : m < nodes) (listed : somewhere (getD (p .places) n 0) ≡ true) where
     its-other : getD (p .places) m 0 ≡ getD (p .places) m nowhere
     its-other = getD-inside (p .places) m 0 nowhere (omega (arith, sized .places))
 
     -- nor to a node elsewhere
     step-elsewhere : (getD (p .places) m 0 ≡ getD (p .places) n 0 → ⊥) → site-steps (records-of p) n m ≡ false
     unfolding held
-    step-elsewhere apart =
-        steps-held
-        ∙ rw (lt-ltb (getD (p .places) n nowhere) sites (omega (arith, its-site)))
-        (go (ltb (getD (p .places) m nowhere) sites))
+    step-elsewhere apart = steps-held ∙ rw (sym (ap somewhere its-site) ∙ listed) (go (somewhere (getD (p .places) m nowhere)))
       where
         one : Place
         one = record { at = getD (p .places) n nowhere; level = getD (p .levels) n 0 }
@@ -122,28 +119,27 @@ module _ (p : Plan) (sized : Sized p) (n m : ℕ) (hn : n < nodes) where
     step-level same =
         steps-held
         ∙ rw (
-          lt-ltb (getD (p .places) n nowhere) sites (omega (arith, its-site)),
-          lt-ltb (getD (p .places) m nowhere) sites (omega (arith, its-other)),
+          sym (ap somewhere its-site) ∙ listed,
+          sym (ap somewhere its-other) ∙ ap somewhere same ∙ listed,
           eq-eqb (getD (p .places) n nowhere) (getD (p .places) m nowhere) (sym its-site ∙ sym same ∙ its-other),
         )
 
 -- the steps over the two arrays are those of the plan's records
 pub steps-same : (p : Plan) → Sized p → (n m : ℕ) → n < nodes → m < nodes → steps-in (p .places) (p .levels) n m ≡ site-steps (records-of p) n m
 unfolding steps-in
-steps-same p sized n m hn hm =
-    ⊎-elim
-    (λ (low : getD (p .places) n 0 < sites).
-    ⊎-elim
-    (λ (e : eqb (getD (p .places) m 0) (getD (p .places) n 0) ≡ true).
-    rw (lt-ltb (getD (p .places) n 0) sites low, e)
-    (sym (step-level p sized n m hn hm low (eqb-true (getD (p .places) m 0) (getD (p .places) n 0) e))))
-    (λ (e : eqb (getD (p .places) m 0) (getD (p .places) n 0) ≡ false).
-    rw (lt-ltb (getD (p .places) n 0) sites low, e)
-    (sym (step-elsewhere p sized n m hn hm low (eqb-false (getD (p .places) m 0) (getD (p .places) n 0) e))))
-    (decided (eqb (getD (p .places) m 0) (getD (p .places) n 0))))
-    (λ (high : sites ≤ getD (p .places) n 0).
-    rw (le-ltb (getD (p .places) n 0) sites high) (sym (step-nowhere p sized n m hn high)))
-    (lt-or-ge (getD (p .places) n 0) sites)
+steps-same p sized n m hn hm = go (somewhere here) (eqb there here) refl refl
+  where
+    here : ℕ
+    here = getD (p .places) n 0
+
+    there : ℕ
+    there = getD (p .places) m 0
+
+    go : (b e : Bool) → somewhere here ≡ b → eqb there here ≡ e
+        → cond b (cond e (leb (getD (p .levels) m 0) (getD (p .levels) n 0)) false) false ≡ site-steps (records-of p) n m
+    go true true listed e = sym (step-level p sized n m hn hm listed (eqb-true there here e))
+    go true false listed e = sym (step-elsewhere p sized n m hn hm listed (eqb-false there here e))
+    go false e unlisted f = sym (step-nowhere p sized n m hn unlisted)
 
 -- A row
 

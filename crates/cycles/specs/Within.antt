@@ -5,7 +5,8 @@ use mathlib.Core.Bool.{Bool, false, _&&_, cond}
 use mathlib.Core.List.{List}
 use lib.Dec.{ltb, leb, eqb}
 use lib.ListN.{length, getD}
-use Rattle.ids.specs.Limits.{sites, nodes}
+use Rattle.ids.specs.Limits.{nodes}
+use Rattle.model.specs.PlanValue.{somewhere}
 use Rattle.graph.specs.Tables.{on}
 
 -- the pairs of nodes: "Nodes are numbered 0 to 63". A plan that passes its checks has no others
@@ -15,7 +16,7 @@ within-nodes relation n m = ltb n nodes && (ltb m nodes && relation n m)
 -- a step within a site, over the places and the levels of the nodes
 unfoldable pub steps-in : List ℕ → List ℕ → ℕ → ℕ → Bool
 steps-in places levels n m =
-    cond (ltb (getD places n 0) sites)
+    cond (somewhere (getD places n 0))
     (cond (eqb (getD places m 0) (getD places n 0)) (leb (getD levels m 0) (getD levels n 0)) false)
     false
 

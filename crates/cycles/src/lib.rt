@@ -2,7 +2,6 @@
 // its edges those between nodes 0 to 63 count.
 use graph::Table;
 use ids::Node;
-use ids::Site;
 use model::Plan;
 ghost use mathlib.Core.Path.{_≡_};
 ghost use mathlib.Core.Bool.{true, _&&_, _||_};
@@ -56,7 +55,7 @@ fn steps_down<'a>(places: &'a [u8], levels: &'a [u8], n: usize, m: usize) -> boo
     ensures { λ r. ⌜ r ≡ steps-in (now (places .entry)) (now (levels .entry)) n m ⌝ }
 {
     let at = places[n];
-    if Site::COUNT <= at as usize {
+    if at == Plan::NOWHERE {
         return false;
     }
     if places[m] != at {

@@ -65,8 +65,7 @@ fn sites(plan: Plan) -> usize
 fn listed(plan: Plan, n: usize) -> bool
     requires { ⌜ n < 64 ⌝ }
 {
-    let place = plan.places[n];
-    (place as usize) < Site::COUNT
+    plan.places[n] != Plan::NOWHERE
 }
 
 fn nodes(plan: Plan) -> usize

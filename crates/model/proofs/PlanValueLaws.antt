@@ -5,18 +5,18 @@ use native.Mathlib.Nat.{not-suc-le-zero, le-of-suc-le-suc, eq-or-lt-of-le}
 use native.Mathlib.Omega.{arith}
 use mathlib.Core.Path.{_≡_, refl, sym, ap, ap₂, subst, _∙_}
 use mathlib.Core.Logic.{⊎-elim}
-use mathlib.Core.Bool.{Bool, true, false, _&&_, _||_, cond}
+use mathlib.Core.Bool.{Bool, true, false, not, _&&_, _||_, cond}
 use mathlib.Core.List.{List, [], _∷_, List·Memᴰ, List·Memᴰ·head, List·Memᴰ·tail}
 use mathlib.Core.Option.{Option, none, some}
-use lib.Dec.{eqb, ltb}
+use lib.Dec.{eqb}
 use lib.ListN.{length, getD, set, length-set, length-replicate, List·getD-eq-default}
 use lib.Seq.{getD-set-same, getD-set-other}
-use borrow.Author.Tests.{eqb-true, eqb-false, eq-eqb, ne-eqb, lt-ltb}
+use borrow.Author.Tests.{eqb-true, eqb-false, eq-eqb, ne-eqb}
 use Rattle.lists.proofs.CountLaws.{lt-or-ge}
 use Rattle.ids.specs.Limits.{sites, most-threads, nodes, most-edges}
 use Rattle.model.specs.Plan.{Record, site, node, edge, threads, Place, place, present, calls, edges, six, passes}
 use Rattle.model.specs.Records.{kind, RecordsOk}
-use Rattle.model.specs.PlanValue.{nowhere, empty-plan, value, site-records, node-records, edge-records, records-of, held, refusal-number, toldRead}
+use Rattle.model.specs.PlanValue.{nowhere, somewhere, empty-plan, value, site-records, node-records, edge-records, records-of, held, refusal-number, toldRead}
 use Rattle.model.specs.declared.Plan.{Plan}
 use Rattle.model.specs.declared.PlanRefusal.{PlanRefusal}
 use Rattle.model.specs.declared.ReadAnswer.{ReadAnswer}
@@ -127,7 +127,7 @@ abbrev site-at : List ℕ → ℕ → Option Record
 site-at ts s = cond (eqb (getD ts s 0) 0) none (some (site s (getD ts s 0)))
 
 abbrev node-at : List ℕ → List ℕ → ℕ → Option Record
-node-at ps ls n = cond (ltb (getD ps n nowhere) sites) (some (node n (getD ps n nowhere) (getD ls n 0))) none
+node-at ps ls n = cond (somewhere (getD ps n nowhere)) (some (node n (getD ps n nowhere) (getD ls n 0))) none
 
 abbrev edge-at : List ℕ → List ℕ → ℕ → Option Record
 edge-at cs ds i = some (edge (getD cs i 0) (getD ds i 0))
@@ -143,7 +143,7 @@ sites-each ts (suc k) = go (eqb (getD ts k 0) 0) (sites-each ts k)
 
 nodes-each : (ps ls : List ℕ) (k : ℕ) (rs : List Record) → node-records ps ls k rs ≡ each (node-at ps ls) k rs
 nodes-each ps ls zero rs = refl
-nodes-each ps ls (suc k) rs = go (ltb (getD ps k nowhere) sites) (nodes-each ps ls k rs)
+nodes-each ps ls (suc k) rs = go (somewhere (getD ps k nowhere)) (nodes-each ps ls k rs)
   where
     new : Record
     new = node k (getD ps k nowhere) (getD ls k 0)
@@ -199,7 +199,7 @@ module _ (p : Plan) where
         (λ i qs l.
         let s = getD (p .places) i nowhere in
         let k = getD (p .levels) i 0 in
-        skip-some look qs (node i s k) (h i s k qs) (ltb s sites))
+        skip-some look qs (node i s k) (h i s k qs) (somewhere s))
 
     past-sites : ((s t : ℕ) (qs : List Record) → look (site s t ∷ qs) ≡ look qs) → look its-sites ≡ look []
     past-sites h =
@@ -265,7 +265,7 @@ module _ (p : Plan) where
         ∙ ⊎-elim
         (λ (h : n < nodes).
         each-find (λ qs. place qs n) (node-at (p .places) (p .levels)) nodes n its-sites h (λ i qs l. other i qs (λ e. omega arith))
-        ∙ here (ltb (getD (p .places) n nowhere) sites) refl)
+        ∙ here (somewhere (getD (p .places) n nowhere)) refl)
         (λ (h : nodes ≤ n).
         each-skip (λ qs. place qs n) (node-at (p .places) (p .levels)) nodes its-sites (λ i qs l. other i qs (λ e. omega arith))
         ∙ none-there
@@ -277,21 +277,21 @@ module _ (p : Plan) where
 
         other : (i : ℕ) (qs : List Record) → (i ≡ n → ⊥) → place (push (node-at (p .places) (p .levels) i) qs) n ≡ place qs n
         other i qs ne =
-            skip-some (λ qs. place qs n) qs (node i (getD (p .places) i nowhere) (getD (p .levels) i 0)) (rw (ne-eqb i n ne)) (ltb (getD (p .places) i nowhere) sites)
+            skip-some (λ qs. place qs n) qs (node i (getD (p .places) i nowhere) (getD (p .levels) i 0)) (rw (ne-eqb i n ne)) (somewhere (getD (p .places) i nowhere))
 
         found : Place
         found = record { at = getD (p .places) n nowhere; level = getD (p .levels) n 0 }
 
-        here : (b : Bool) → ltb (getD (p .places) n nowhere) sites ≡ b
+        here : (b : Bool) → somewhere (getD (p .places) n nowhere) ≡ b
             → place (push (cond b (some (node n (getD (p .places) n nowhere) (getD (p .levels) n 0))) none) (each (node-at (p .places) (p .levels)) n its-sites)) n
             ≡ cond b (some found) none
         here true e = rw (eq-eqb n n refl)
         here false e =
             each-skip (λ qs. place qs n) (node-at (p .places) (p .levels)) n its-sites (λ i qs l. other i qs (λ e. omega arith)) ∙ none-there
 
-present-held : (p : Plan) (n : ℕ) → present (held p n) ≡ ltb (getD (p .places) n nowhere) sites
+present-held : (p : Plan) (n : ℕ) → present (held p n) ≡ somewhere (getD (p .places) n nowhere)
 unfolding held
-present-held p n = go (ltb (getD (p .places) n nowhere) sites)
+present-held p n = go (somewhere (getD (p .places) n nowhere))
   where
     go : (b : Bool) → present (cond b (some (record { at = getD (p .places) n nowhere; level = getD (p .levels) n 0 })) none) ≡ b
     go true = refl
@@ -310,8 +310,12 @@ no-edges (edge c d ∷ rs) h = absurd (h c d (List·Memᴰ·head refl))
 only-nodes : (p : Plan) → p .edges ≡ 0 → records-of p ≡ its-nodes p
 only-nodes p e = records-each p ∙ ap (λ (k : ℕ). each (edge-at (p .callers) (p .callees)) (min k most-edges) (its-nodes p)) e
 
-only-sites : (p : Plan) → p .edges ≡ 0 → ((n : ℕ) → ltb (getD (p .places) n nowhere) sites ≡ false) → records-of p ≡ its-sites p
+only-sites : (p : Plan) → p .edges ≡ 0 → ((n : ℕ) → somewhere (getD (p .places) n nowhere) ≡ false) → records-of p ≡ its-sites p
 only-sites p e h = only-nodes p e ∙ each-skip (λ qs. qs) (node-at (p .places) (p .levels)) nodes (its-sites p) (λ i qs l. rw (h i))
+
+-- a site's number is a place
+place-of-site : (s : ℕ) → s < sites → somewhere s ≡ true
+place-of-site s h = ap not (ne-eqb s nowhere (λ e. omega arith))
 
 -- one record more, later than those before it, which the value holds
 module _ (rs : List Record) (r : Record) (ok : RecordsOk (r ∷ rs)) (same : records-of (value rs) ≡ rs) where
@@ -321,7 +325,7 @@ module _ (rs : List Record) (r : Record) (ok : RecordsOk (r ∷ rs)) (same : rec
   edges-yet : kind r < 3 → old .edges ≡ 0
   edges-yet h = edges-value rs ∙ no-edges rs (λ c d m. omega (arith, never-falls (ok .rising .1 (edge c d) m)))
 
-  nodes-yet : (n : ℕ) → ((s l : ℕ) → List·Memᴰ (node n s l) rs → ⊥) → ltb (getD (old .places) n nowhere) sites ≡ false
+  nodes-yet : (n : ℕ) → ((s l : ℕ) → List·Memᴰ (node n s l) rs → ⊥) → somewhere (getD (old .places) n nowhere) ≡ false
   nodes-yet n h =
       sym (present-held old n)
       ∙ ap present (sym (place-of old (value-sized rs) n) ∙ ap (λ (qs : List Record). place qs n) same)
@@ -362,17 +366,17 @@ one-more rs (site s t) ok same =
     no-edge : value rs .edges ≡ 0
     no-edge = edges-yet rs (site s t) ok same (omega arith)
 
-    no-node : (n : ℕ) → ltb (getD (value rs .places) n nowhere) sites ≡ false
+    no-node : (n : ℕ) → somewhere (getD (value rs .places) n nowhere) ≡ false
     no-node n = nodes-yet rs (site s t) ok same n (λ r l m. omega (arith, never-falls (ok .rising .1 (node n r l) m)))
 one-more rs (node n s l) ok same =
     only-nodes (value (node n s l ∷ rs)) no-edge
     ∙ each-more (node-at ps ls) (node-at (set ps n s) (set ls n l)) (node n s l) nodes n (its-sites (value rs)) low
     (λ i ne.
-    ap₂ (λ (x y : ℕ). cond (ltb x sites) (some (node i x y)) none) (getD-set-other ps n i s nowhere ne) (getD-set-other ls n i l 0 ne))
+    ap₂ (λ (x y : ℕ). cond (somewhere x) (some (node i x y)) none) (getD-set-other ps n i s nowhere ne) (getD-set-other ls n i l 0 ne))
     (rw (
       getD-set-same ps n s nowhere (omega (arith, low, value-sized rs .places)),
       getD-set-same ls n l 0 (omega (arith, low, value-sized rs .levels)),
-      lt-ltb s sites (ok .site-range s (its .0) (its .1) .0),
+      place-of-site s (ok .site-range s (its .0) (its .1) .0),
     ))
     (λ i h.
     rw (nodes-yet rs (node n s l) ok same i
@@ -437,8 +441,8 @@ module _ (rs : List Record) (p : passes six rs ≡ true) where
   pub place-value : (n : ℕ) → held (value rs) n ≡ place rs n
   place-value n = sym (place-of (value rs) (value-sized rs) n) ∙ ap (λ (qs : List Record). place qs n) (records-value rs p)
 
-  -- a node has a record where its site is below 16
-  pub present-value : (n : ℕ) → present (place rs n) ≡ ltb (getD (value rs .places) n nowhere) sites
+  -- a node has a record where it is somewhere
+  pub present-value : (n : ℕ) → present (place rs n) ≡ somewhere (getD (value rs .places) n nowhere)
   present-value n = ap present (sym (place-value n)) ∙ present-held (value rs) n
 
 -- Answers

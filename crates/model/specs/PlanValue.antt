@@ -1,11 +1,11 @@
 -- A plan as the value that holds it: the records stored one after the other in the empty plan, so that each plan has one value.
 -- Assumes nothing.
 use Prim.Native.Nat.{ℕ, zero, suc, _+_, min}
-use mathlib.Core.Bool.{cond}
+use mathlib.Core.Bool.{Bool, not, cond}
 use mathlib.Core.List.{List, [], _∷_}
 use mathlib.Core.Option.{Option, none, some}
 use lib.ListN.{getD, replicate, set}
-use lib.Dec.{eqb, ltb}
+use lib.Dec.{eqb}
 use Rattle.ids.specs.Limits.{sites, nodes, most-edges}
 use Rattle.ids.specs.Made.{Told}
 use Rattle.model.specs.Plan.{Record, site, node, edge, Place}
@@ -14,9 +14,12 @@ use Rattle.model.specs.declared.Plan.{Plan}
 use Rattle.model.specs.declared.PlanRefusal.{PlanRefusal}
 use Rattle.model.specs.declared.ReadAnswer.{ReadAnswer}
 
--- a node that has no record is nowhere
+-- a node that has no record is nowhere; at any other place it has one, also where no site has that number (check 5)
 abbrev pub nowhere : ℕ
 nowhere = 255
+
+abbrev pub somewhere : ℕ → Bool
+somewhere place = not (eqb place nowhere)
 
 unfoldable pub empty-plan : Plan
 empty-plan =
@@ -83,7 +86,7 @@ reading-plan (accepted rs used) = value rs
 reading-plan (refused number offset) = empty-plan
 
 -- The records that a plan's value holds, whoever made it: its sites, nodes and edges in the order of their numbers, the latest first. A site has a
--- record where its threads are not 0, and a node where its site is below 16
+-- record where its threads are not 0, and a node where its place is not nowhere
 
 abbrev pub site-records : List ℕ → ℕ → List Record
 site-records threads zero = []
@@ -93,7 +96,7 @@ site-records threads (suc s) =
 abbrev pub node-records : List ℕ → List ℕ → ℕ → List Record → List Record
 node-records places levels zero rs = rs
 node-records places levels (suc n) rs =
-    cond (ltb (getD places n nowhere) sites)
+    cond (somewhere (getD places n nowhere))
     (node n (getD places n nowhere) (getD levels n 0) ∷ node-records places levels n rs)
     (node-records places levels n rs)
 
@@ -109,4 +112,4 @@ records-of p =
 -- a node's site and level in a plan's value, where it has a record there
 unfoldable pub held : Plan → ℕ → Option Place
 held p n =
-    cond (ltb (getD (p .places) n nowhere) sites) (some (record { at = getD (p .places) n nowhere; level = getD (p .levels) n 0 })) none
+    cond (somewhere (getD (p .places) n nowhere)) (some (record { at = getD (p .places) n nowhere; level = getD (p .levels) n 0 })) none

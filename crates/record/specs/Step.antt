@@ -7,7 +7,7 @@ use lib.Dec.{ltb, leb, eqb}
 use Rattle.ids.specs.Limits.{sites, most-threads, nodes, most-edges}
 use Rattle.model.specs.House.{Next, lacking, unknown, cut, whole, next}
 use Rattle.model.specs.Plan.{Record, plan-kinds, first-fault, site, node, edge}
-use Rattle.model.specs.PlanValue.{refusal-number, nowhere, stored}
+use Rattle.model.specs.PlanValue.{refusal-number, nowhere, somewhere, stored}
 use Rattle.model.specs.declared.Plan.{Plan}
 use Rattle.model.specs.declared.PlanRecord.{PlanRecord}
 use Rattle.record.specs.declared.NextRecord.{NextRecord}
@@ -70,7 +70,7 @@ abbrev pub listed-site : Plan → ℕ → Bool
 listed-site p s = not (eqb (getD (p .threads) s 0) 0)
 
 abbrev pub listed-node : Plan → ℕ → Bool
-listed-node p n = ltb (getD (p .places) n nowhere) sites
+listed-node p n = somewhere (getD (p .places) n nowhere)
 
 -- the checks on a record of each kind
 abbrev pub site-fault : ℕ → ℕ → ℕ

@@ -174,8 +174,7 @@ fn has_node(plan: Plan, node: Node) -> bool
     if at >= Node::COUNT {
         return false;
     }
-    let place = plan.places[at];
-    (place as usize) < Site::COUNT
+    plan.places[at] != Plan::NOWHERE
 }
 
 // Checks 5 and 9 on an edge record.
