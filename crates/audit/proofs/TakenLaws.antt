@@ -8,19 +8,24 @@ use lib.ListN.{length, getD}
 use borrow.Author.Tests.{eq-eqb, ne-eqb}
 use Rattle.ids.specs.Limits.{sites, nodes, most-edges}
 use Rattle.lists.proofs.CountLaws.{getD-inside}
-use Rattle.model.specs.Plan.{Record, site, node, edge}
+use Rattle.model.specs.Plan.{Record, site, node, edge, six}
 use Rattle.model.specs.PlanValue.{nowhere, empty-plan, value, records-of}
 use Rattle.model.specs.PlanFault.{records-fault}
 use Rattle.model.specs.declared.Plan.{Plan}
 use Rattle.model.specs.declared.PlanRecord.{PlanRecord}
 use Rattle.model.specs.declared.PlanRefusal.{PlanRefusal}
-use Rattle.model.proofs.PlanValueLaws.{refusal-named}
+use Rattle.model.proofs.RefusalLaws.{refusal-named}
+use Rattle.model.proofs.RecordLaws.{passes-ok}
 use Rattle.model.proofs.PlanFaultLaws.{fault-kept, fault-new, records-fault-none}
-use Rattle.record.specs.Step.{of-record, last-of, toldCheck, fault-in, stored-in}
+use Rattle.record.specs.Step.{of-record, last-of, toldCheck, value-fault, stored-in}
 use Rattle.record.specs.declared.Checked.{Checked}
-use Rattle.record.proofs.RecordFaults.{fault-same, stored-same}
+use Rattle.record.proofs.RecordFaults.{fault-same, Storable, storable, stored-same}
 use Rattle.audit.specs.Taken.{Taken, Takes, sites-to, nodes-to, edges-to}
 use Rattle.audit.specs.declared.Audit.{Audit}
+
+-- the fault of a record over a plan and the record before
+abbrev pub over : Plan → PlanRecord → PlanRecord → ℕ
+over p last next = value-fault (p .threads) (p .places) (p .edges) last next
 
 -- a refusal is a fault
 pub real : {checked : Checked} {why : PlanRefusal} → checked ≡ Checked.Refused why → toldCheck checked ≡ 0 → ⊥
@@ -35,21 +40,21 @@ module _ (old : Audit) (next : PlanRecord) where
   -- behind a fault
   pub kept : (toldCheck (old .checked) ≡ 0 → ⊥) → Takes old next old
   kept bad-yet rs r so e =
-      let bad : records-fault rs ≡ 0 → ⊥ = λ z. bad-yet (so .fault-is ∙ z) in
-      let same = fault-kept rs r bad in
+      let bad : records-fault six rs ≡ 0 → ⊥ = λ z. bad-yet (so .fault-is ∙ z) in
+      let same = fault-kept six rs r bad in
       record { fault-is = so .fault-is ∙ sym same; held = λ z. absurd (bad (sym same ∙ z)) }
 
   -- behind none, with what the record's check answers
-  module _ (none : toldCheck (old .checked) ≡ 0) (checked : Checked) (told : toldCheck checked ≡ fault-in (old .plan) (old .last) next) where
-    its-fault : (rs : List Record) (r : Record) → Taken rs old → next ≡ of-record r → toldCheck checked ≡ records-fault (r ∷ rs)
+  module _ (none : toldCheck (old .checked) ≡ 0) (checked : Checked) (told : toldCheck checked ≡ over (old .plan) (old .last) next) where
+    its-fault : (rs : List Record) (r : Record) → Taken rs old → next ≡ of-record r → toldCheck checked ≡ records-fault six (r ∷ rs)
     its-fault rs r so e =
-        let no-fault : records-fault rs ≡ 0 = sym (so .fault-is) ∙ none in
+        let no-fault : records-fault six rs ≡ 0 = sym (so .fault-is) ∙ none in
         let w = so .held no-fault in
         told
-        ∙ ap₂ (λ (p : Plan) (l : PlanRecord). fault-in p l next) (w .0) (w .1)
-        ∙ ap (fault-in (value rs) (last-of rs)) e
-        ∙ fault-same rs (records-fault-none rs .0 no-fault) r
-        ∙ sym (fault-new rs r no-fault)
+        ∙ ap₂ (λ (p : Plan) (l : PlanRecord). over p l next) (w .0) (w .1)
+        ∙ ap (over (value rs) (last-of rs)) e
+        ∙ fault-same rs (passes-ok six rs (records-fault-none six rs .0 no-fault)) r
+        ∙ sym (fault-new six rs r no-fault)
 
     pub found : (toldCheck checked ≡ 0 → ⊥) → Takes old next (record { checked = checked; plan = old .plan; last = old .last })
     found bad rs r so e =
@@ -59,9 +64,15 @@ module _ (old : Audit) (next : PlanRecord) where
     unfolding value
     held-now plan new rs r so e =
         let w = so .held (sym (so .fault-is) ∙ none) in
+        let its = its-fault rs r so e in
+        let same : stored-in (old .plan) next ≡ stored-in (value rs) (of-record r) = ap₂ stored-in (w .0) e in
         record {
-          fault-is = its-fault rs r so e;
-          held = λ z. (new ∙ ap₂ stored-in (w .0) e ∙ stored-same (value rs) r, e);
+          fault-is = its;
+          held = λ z.
+              let fits : Storable (value rs .edges) (of-record r)
+              = storable (value rs .threads) (value rs .places) (value rs .edges) (last-of rs) (of-record r)
+              (sym (ap₂ (λ (p : Plan) (l : PlanRecord). over p l (of-record r)) (w .0) (w .1)) ∙ sym (ap (over (old .plan) (old .last)) e) ∙ sym told ∙ its ∙ z) in
+              (new ∙ same ∙ stored-same (value rs) r fits, e);
         }
 
 -- The records one after the other, in what code makes of a turn: the record is taken up, or there is none

@@ -7,19 +7,18 @@ use mathlib.Core.Path.{_≡_, refl, sym, ap, ap₂, _∙_}
 use mathlib.Core.Bool.{Bool, true, false, _&&_, _||_, cond}
 use mathlib.Core.List.{List, []}
 use mathlib.Core.Option.{none, some}
-use lib.Dec.{eqb, leb, ltb}
+use lib.Dec.{eqb, leb}
 use lib.ListN.{length, getD, set, replicate, length-set}
 use lib.Seq.{getD-set-same, getD-set-other}
 use mir.Val.{boolByte}
 use borrow.Author.Count.{below-more}
-use borrow.Author.Tests.{eqb-true, eqb-false, eq-eqb, ne-eqb, lt-ltb, le-ltb}
-use mathlib.Core.Logic.{⊎-elim}
-use Rattle.lists.proofs.CountLaws.{lt-or-ge, decided, never-both, and-left, and-right, and-both, getD-inside}
-use Rattle.ids.specs.Limits.{sites, nodes, most-edges}
+use borrow.Author.Tests.{eqb-true, eqb-false, eq-eqb, ne-eqb}
+use Rattle.lists.proofs.CountLaws.{never-both, and-left, and-right, and-both, getD-inside}
+use Rattle.ids.specs.Limits.{nodes, most-edges}
 use Rattle.model.specs.Plan.{Place, calls, site-steps, descends}
 use Rattle.model.specs.PlanValue.{nowhere, somewhere, edge-records, records-of, held}
 use Rattle.model.specs.declared.Plan.{Plan}
-use Rattle.model.proofs.PlanValueLaws.{Sized, calls-of, place-of}
+use Rattle.model.proofs.HeldLaws.{Sized, calls-of, place-of}
 use Rattle.graph.specs.Tables.{lit, on}
 use Rattle.graph.specs.Steps.{Is}
 use Rattle.graph.proofs.StepLaws.{on-lit, lit-ap, byte-lit}

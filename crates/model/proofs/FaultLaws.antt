@@ -12,8 +12,8 @@ use lib.Dec.{eqb}
 use borrow.Author.Tests.{eqb-true, eqb-false, ne-eqb, le-leb, lt-leb, not-true, not-false}
 use Rattle.lists.proofs.CountLaws.{never-both, and-left, and-right}
 use Rattle.model.specs.House.{unknown, cut, whole, next}
-use Rattle.model.specs.Plan.{Record, site, node, edge, Levels, six, follows, in-range, known, level-below, room-for, record-fault, first-fault, loops, self-depends, end-fault, plan-kinds, bytes-of}
-use Rattle.model.specs.Reading.{decoded}
+use Rattle.model.specs.Plan.{Record, site, node, edge, Levels, six, numbered, follows, in-range, known, level-below, room-for, record-fault, first-fault, loops, self-depends, end-fault, plan-kinds, bytes-of}
+use Rattle.model.specs.Reading.{Ends, decoded}
 use Rattle.model.specs.Faults.{fault-at, Fault, no-kind, strange-kind, short-body, of-record, of-plan, Given}
 
 -- What stands where a record is due
@@ -46,9 +46,9 @@ next-short : (kind size : ℕ) (rest : List ℕ) → plan-kinds kind ≡ some si
 unfolding next
 next-short kind size rest e h = rw (e, lt-leb size (length rest) h)
 
-module _ (levels : Levels) (rs : List Record) where
+module _ (levels : Levels) (ends : Ends) (rs : List Record) where
   -- each case gives the number that it names
-  case-fault : {tail : List ℕ} {n : ℕ} → Fault levels rs tail n → fault-at levels rs tail ≡ n
+  case-fault : {tail : List ℕ} {n : ℕ} → Fault levels ends rs tail n → fault-at levels ends rs tail ≡ n
   unfolding fault-at next
   case-fault (no-kind e q) = rw (e, q)
   case-fault (strange-kind kind rest e out q) = rw (e, q, next-strange kind rest out)
@@ -58,13 +58,13 @@ module _ (levels : Levels) (rs : List Record) where
 
   -- and bytes are always of some case
   pair-case : (kind : ℕ) (make : ℕ → ℕ → Record) → plan-kinds kind ≡ some 2 → ((a b : ℕ) → kind ∷ a ∷ b ∷ [] ≡ bytes-of (make a b))
-      → (rest : List ℕ) → (n : ℕ) × Fault levels rs (kind ∷ rest) n
+      → (rest : List ℕ) → (n : ℕ) × Fault levels ends rs (kind ∷ rest) n
   pair-case kind make size same [] = (1, short-body kind 2 [] refl size (omega arith) refl)
   pair-case kind make size same (a ∷ []) = (1, short-body kind 2 (a ∷ []) refl size (omega arith) refl)
   pair-case kind make size same (a ∷ b ∷ rest) =
       (record-fault levels rs (make a b), of-record (make a b) rest (ap (λ (l : List ℕ). l ++ rest) (same a b)) refl)
 
-  some-case : (tail : List ℕ) → (n : ℕ) × Fault levels rs tail n
+  some-case : (tail : List ℕ) → (n : ℕ) × Fault levels ends rs tail n
   unfolding bytes-of
   some-case [] = (1, no-kind refl refl)
   some-case (zero ∷ rest) = (2, strange-kind 0 rest refl (inl (omega arith)) refl)
@@ -74,14 +74,14 @@ module _ (levels : Levels) (rs : List Record) where
   some-case (suc (suc zero) ∷ a ∷ b ∷ []) = (1, short-body 2 3 (a ∷ b ∷ []) refl refl (omega arith) refl)
   some-case (suc (suc zero) ∷ a ∷ b ∷ c ∷ rest) = (record-fault levels rs (node a b c), of-record (node a b c) rest refl refl)
   some-case (suc (suc (suc zero)) ∷ rest) = pair-case 3 edge refl (λ a b. refl) rest
-  some-case (suc (suc (suc (suc zero))) ∷ rest) = (end-fault rs, of-plan rest refl refl)
+  some-case (suc (suc (suc (suc zero))) ∷ rest) = (ends rs, of-plan rest refl refl)
   some-case (suc (suc (suc (suc (suc k)))) ∷ rest) = (2, strange-kind (suc (suc (suc (suc (suc k))))) rest refl (inr (omega arith)) refl)
 
   -- so the number of the decision is that of the case
-  pub fault-is : (tail : List ℕ) (n : ℕ) → (fault-at levels rs tail ≡ n) ↔ Fault levels rs tail n
+  pub fault-is : (tail : List ℕ) (n : ℕ) → (fault-at levels ends rs tail ≡ n) ↔ Fault levels ends rs tail n
   fault-is tail n =
       let w = some-case tail in
-      ((λ e. subst (Fault levels rs tail) (sym (case-fault (w .1)) ∙ e) (w .1)), case-fault)
+      ((λ e. subst (Fault levels ends rs tail) (sym (case-fault (w .1)) ∙ e) (w .1)), case-fault)
 
 -- Lists of tests
 
@@ -145,13 +145,62 @@ module _ (rs : List Record) (r : Record) where
       ↔ (follows rs r ≡ true) × ((in-range r ≡ true) × ((known rs r ≡ true) × ((level-below rs r ≡ true) × (room-for rs r ≡ false))))
   record-9 = record-given 9 refl
 
-  pub record-sound : (record-fault six rs r ≡ 0)
-      ↔ (follows rs r ≡ true) × (in-range r ≡ true) × (known rs r ≡ true) × (level-below rs r ≡ true) × (room-for rs r ≡ true)
-  record-sound =
-      let w = record-given 0 refl in (
-        (λ e. let g = w .0 e in (g .0, g .1 .0, g .1 .1 .0, g .1 .1 .1 .0, g .1 .1 .1 .1 .0)),
-        (λ h. w .1 (h .0, (h .1, (h .2, (h .3, (h .4, refl)))))),
-      )
+-- No fault of a record, whatever the tests of its level
+
+-- a test with a number gives none where it holds and what follows gives none
+passed : (b : Bool) (x n : ℕ) → (cond b x (suc n) ≡ 0) ↔ (b ≡ true) × (x ≡ 0)
+passed true x n = ((λ e. (refl, e)), (λ h. h .1))
+passed false x n = ((λ e. absurd (omega arith)), (λ h. absurd (never-both (h .0) refl)))
+
+none-of-both : (ts bs : List (Bool × ℕ)) → numbered ts ≡ true → (first-fault (ts ++ bs) ≡ 0) ↔ (first-fault ts ≡ 0) × (first-fault bs ≡ 0)
+none-of-both [] bs n = ((λ e. (refl, e)), (λ h. h .1))
+none-of-both (t ∷ ts) bs n = go (t .0) (none-of-both ts bs (and-right (not (eqb (t .1) 0)) (numbered ts) n))
+  where
+    real : t .1 ≡ 0 → ⊥
+    real = eqb-false (t .1) 0 (not-true (eqb (t .1) 0) (and-left (not (eqb (t .1) 0)) (numbered ts) n))
+
+    go : (b : Bool) → (first-fault (ts ++ bs) ≡ 0) ↔ (first-fault ts ≡ 0) × (first-fault bs ≡ 0)
+        → (cond b (first-fault (ts ++ bs)) (t .1) ≡ 0) ↔ (cond b (first-fault ts) (t .1) ≡ 0) × (first-fault bs ≡ 0)
+    go true rest = rest
+    go false rest = ((λ e. absurd (real e)), (λ h. absurd (real (h .0))))
+
+pub record Sound (levels : Levels) (rs : List Record) (r : Record) : Type 0 where
+  pub rises : follows rs r ≡ true
+  pub in-limits : in-range r ≡ true
+  pub named : known rs r ≡ true
+  pub level : first-fault (levels .tests rs r) ≡ 0
+  pub room : room-for rs r ≡ true
+
+pub record-sound : (levels : Levels) (rs : List Record) (r : Record) → (record-fault levels rs r ≡ 0) ↔ Sound levels rs r
+unfolding record-fault
+record-sound levels rs r = (from, into)
+  where
+    behind-level : ℕ
+    behind-level = first-fault (levels .tests rs r ++ ((room-for rs r, 9) ∷ []))
+
+    both : (behind-level ≡ 0) ↔ (first-fault (levels .tests rs r) ≡ 0) × (_≡_ {A = ℕ} (cond (room-for rs r) 0 9) 0)
+    both = none-of-both (levels .tests rs r) ((room-for rs r, 9) ∷ []) (levels .all-numbered rs r)
+
+    three : (record-fault levels rs r ≡ 0) ↔ (follows rs r ≡ true) × (cond (in-range r) (cond (known rs r) behind-level 5) 4 ≡ 0)
+    three = passed (follows rs r) (cond (in-range r) (cond (known rs r) behind-level 5) 4) 2
+
+    four : (cond (in-range r) (cond (known rs r) behind-level 5) 4 ≡ 0) ↔ (in-range r ≡ true) × (cond (known rs r) behind-level 5 ≡ 0)
+    four = passed (in-range r) (cond (known rs r) behind-level 5) 3
+
+    five : (cond (known rs r) behind-level 5 ≡ 0) ↔ (known rs r ≡ true) × (behind-level ≡ 0)
+    five = passed (known rs r) behind-level 4
+
+    from : record-fault levels rs r ≡ 0 → Sound levels rs r
+    from e =
+        let a = three .0 e in
+        let b = four .0 (a .1) in
+        let c = five .0 (b .1) in
+        let d = both .0 (c .1) in
+        record { rises = a .0; in-limits = b .0; named = c .0; level = d .0; room = passed (room-for rs r) 0 8 .0 (d .1) .0 }
+
+    into : Sound levels rs r → record-fault levels rs r ≡ 0
+    into h =
+        three .1 (h .rises, four .1 (h .in-limits, five .1 (h .named, both .1 (h .level, passed (room-for rs r) 0 8 .1 (h .room, refl)))))
 
 -- The numbers of the whole plan, likewise
 module _ (rs : List Record) where
@@ -182,16 +231,16 @@ module _ (rs : List Record) where
 -- The numbers of the bytes behind the records rs
 module _ (rs : List Record) (tail : List ℕ) where
   -- 1, "the input ends where a kind byte or a body byte is due"
-  abbrev Ends : Type 0
-  Ends = (tail ≡ []) ⊎ ((kind : ℕ) × (size : ℕ) × (rest : List ℕ) × (tail ≡ kind ∷ rest) × (plan-kinds kind ≡ some size) × (length rest < size))
+  abbrev InputEnds : Type 0
+  InputEnds = (tail ≡ []) ⊎ ((kind : ℕ) × (size : ℕ) × (rest : List ℕ) × (tail ≡ kind ∷ rest) × (plan-kinds kind ≡ some size) × (length rest < size))
 
-  pub bytes-1 : (fault-at six rs tail ≡ 1) ↔ Ends
+  pub bytes-1 : (fault-at six end-fault rs tail ≡ 1) ↔ InputEnds
   bytes-1 = (
-    (λ e. go (fault-is six rs tail 1 .0 e)),
-    (λ h. case-fault six rs (⊎-elim (λ e. no-kind e refl) (λ w. short-body (w .0) (w .1) (w .2) (w .3) (w .4) (w .5) refl) h)),
+    (λ e. go (fault-is six end-fault rs tail 1 .0 e)),
+    (λ h. case-fault six end-fault rs (⊎-elim (λ e. no-kind e refl) (λ w. short-body (w .0) (w .1) (w .2) (w .3) (w .4) (w .5) refl) h)),
   )
     where
-      go : Fault six rs tail 1 → Ends
+      go : Fault six end-fault rs tail 1 → InputEnds
       go (no-kind e q) = inl e
       go (strange-kind kind rest e out q) = absurd (omega arith)
       go (short-body kind size rest e given h q) = inr (kind, size, rest, e, given, h)
@@ -202,10 +251,10 @@ module _ (rs : List Record) (tail : List ℕ) where
   abbrev Strange : Type 0
   Strange = (kind : ℕ) × (rest : List ℕ) × (tail ≡ kind ∷ rest) × ((kind < 1) ⊎ (4 < kind))
 
-  pub bytes-2 : (fault-at six rs tail ≡ 2) ↔ Strange
-  bytes-2 = ((λ e. go (fault-is six rs tail 2 .0 e)), (λ w. case-fault six rs (strange-kind (w .0) (w .1) (w .2) (w .3) refl)))
+  pub bytes-2 : (fault-at six end-fault rs tail ≡ 2) ↔ Strange
+  bytes-2 = ((λ e. go (fault-is six end-fault rs tail 2 .0 e)), (λ w. case-fault six end-fault rs (strange-kind (w .0) (w .1) (w .2) (w .3) refl)))
     where
-      go : Fault six rs tail 2 → Strange
+      go : Fault six end-fault rs tail 2 → Strange
       go (no-kind e q) = absurd (omega arith)
       go (strange-kind kind rest e out q) = (kind, rest, e, out)
       go (short-body kind size rest e given h q) = absurd (omega arith)
@@ -220,21 +269,21 @@ module _ (rs : List Record) (tail : List ℕ) where
     abbrev At-end : Type 0
     At-end = (rest : List ℕ) × (tail ≡ 4 ∷ rest) × (end-fault rs ≡ n)
 
-    other : Fault six rs tail n → At-record ⊎ At-end
+    other : Fault six end-fault rs tail n → At-record ⊎ At-end
     other (no-kind e q) = absurd (not-1 q)
     other (strange-kind kind rest e out q) = absurd (not-2 q)
     other (short-body kind size rest e given h q) = absurd (not-1 q)
     other (of-record r rest e q) = inl (r, rest, e, q)
     other (of-plan rest e q) = inr (rest, e, q)
 
-    pub bytes-record : absent n (plan-tests rs) ≡ true → (fault-at six rs tail ≡ n) ↔ At-record
+    pub bytes-record : absent n (plan-tests rs) ≡ true → (fault-at six end-fault rs tail ≡ n) ↔ At-record
     bytes-record a = (
-      (λ e. ⊎-elim (λ w. w) (λ w. absurd (plan-never rs n a (w .2))) (other (fault-is six rs tail n .0 e))),
-      (λ w. case-fault six rs (of-record (w .0) (w .1) (w .2) (w .3))),
+      (λ e. ⊎-elim (λ w. w) (λ w. absurd (plan-never rs n a (w .2))) (other (fault-is six end-fault rs tail n .0 e))),
+      (λ w. case-fault six end-fault rs (of-record (w .0) (w .1) (w .2) (w .3))),
     )
 
-    pub bytes-plan : ((r : Record) → absent n (record-tests rs r) ≡ true) → (fault-at six rs tail ≡ n) ↔ At-end
+    pub bytes-plan : ((r : Record) → absent n (record-tests rs r) ≡ true) → (fault-at six end-fault rs tail ≡ n) ↔ At-end
     bytes-plan a = (
-      (λ e. ⊎-elim (λ w. absurd (record-never rs (w .0) n (a (w .0)) (w .3))) (λ w. w) (other (fault-is six rs tail n .0 e))),
-      (λ w. case-fault six rs (of-plan (w .0) (w .1) (w .2))),
+      (λ e. ⊎-elim (λ w. absurd (record-never rs (w .0) n (a (w .0)) (w .3))) (λ w. w) (other (fault-is six end-fault rs tail n .0 e))),
+      (λ w. case-fault six end-fault rs (of-plan (w .0) (w .1) (w .2))),
     )

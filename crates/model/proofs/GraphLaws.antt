@@ -74,7 +74,7 @@ module _ (s : ℕ → ℕ → Bool) where
           reach-join (sound n k (both .0)) (sound k m (both .1))
 
   -- `via` holds from a node to itself
-  via-stay : (ks : List ℕ) (n : ℕ) → T (via s ks n n)
+  pub via-stay : (ks : List ℕ) (n : ℕ) → T (via s ks n n)
   via-stay [] n = or-left (eqb n n) (s n n) (eqb-refl n)
   via-stay (k ∷ ks) n = or-left (via s ks n n) (via s ks n k && via s ks k n) (via-stay ks n)
 
@@ -144,6 +144,14 @@ module _ (calls steps : ℕ → ℕ → Bool) where
       (λ c. by-call c (reach-join p (go (or-left (calls u v) (steps u v) e) q)))
       (λ w. by-site w (edge-depends p e q))
       (or-cases (calls n x) (steps n x) d)
+
+  -- a dependence and then a path, or a path and then a dependence, is a dependence
+  pub depends-on : {n m l : ℕ} → Depends calls steps n m → Reach (either calls steps) m l → Depends calls steps n l
+  depends-on (by-call e p) q = by-call e (reach-join p q)
+  depends-on (by-site e d) q = by-site e (depends-on d q)
+
+  pub depends-reach : {n m l : ℕ} → Reach (either calls steps) n m → Depends calls steps m l → Depends calls steps n l
+  depends-reach p d = let found = depends-edge d in edge-depends (reach-join p (found .2)) (found .3) (found .4)
 
   -- some node depends on itself just where a call edge is closed backwards by a path
   pub circle-edge : ((n : ℕ) × Depends calls steps n n) ↔ ((u : ℕ) × (v : ℕ) × T (calls u v) × Reach (either calls steps) v u)

@@ -6,8 +6,12 @@ pub mod AnswerLaws
 pub mod GraphLaws
 pub mod FaultLaws
 pub mod ReadingLaws
+pub mod EncodeLaws
+pub mod KindLaws
 pub mod RecordLaws
 pub mod PlanLaws
+pub mod HeldLaws
 pub mod PlanValueLaws
+pub mod RefusalLaws
 pub mod PlanFaultLaws
 pub mod LevelSheet

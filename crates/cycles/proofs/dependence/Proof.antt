@@ -4,7 +4,7 @@ use Prim.Native.Nat.{_*_}
 use mathlib.Core.Path.{_≡_}
 use lib.ListN.{length}
 use borrow.Author.Needs.{needs}
-use Rattle.model.proofs.PlanValueLaws.{Sized}
+use Rattle.model.proofs.HeldLaws.{Sized}
 use Rattle.ids.specs.Limits.{nodes}
 use Rattle.cycles.proofs.WithinLaws.{dependence-tables}
 use Rattle.cycles.proofs.dependence.Statement.{statement}

@@ -5,7 +5,7 @@ use mathlib.Core.Path.{_≡_}
 use mathlib.Core.Logic.{Iff·trans}
 use lib.ListN.{length}
 use borrow.Author.Needs.{needs}
-use Rattle.model.proofs.PlanValueLaws.{Sized}
+use Rattle.model.proofs.HeldLaws.{Sized}
 use Rattle.ids.specs.Limits.{nodes}
 use Rattle.cycles.proofs.WithinLaws.{circle-tables}
 use Rattle.cycles.proofs.self_depends.Statement.{statement}

@@ -6,7 +6,7 @@ use native.Mathlib.Omega.{arith}
 use borrow.Author.Needs.{needs}
 use lib.ListN.{length}
 use Rattle.ids.specs.Limits.{nodes}
-use Rattle.model.proofs.PlanValueLaws.{Sized}
+use Rattle.model.proofs.HeldLaws.{Sized}
 use Rattle.graph.specs.Tables.{on}
 use Rattle.cycles.specs.Within.{steps-in}
 use Rattle.cycles.proofs.TableLaws.{rows-more, steps-same}
