@@ -28,18 +28,18 @@ abbrev pub over : Plan → PlanRecord → PlanRecord → ℕ
 over p last next = value-fault (p .threads) (p .places) (p .edges) last next
 
 -- a refusal is a fault
-pub real : {checked : Checked} {why : PlanRefusal} → checked ≡ Checked.Refused why → toldCheck checked ≡ 0 → ⊥
-real {checked} {why} e z = refusal-named why .1 (sym (ap toldCheck e) ∙ z)
+pub refusal-counts : {checked : Checked} {why : PlanRefusal} → checked ≡ Checked.Refused why → toldCheck checked ≡ 0 → ⊥
+refusal-counts {checked} {why} e z = refusal-named why .1 (sym (ap toldCheck e) ∙ z)
 
 -- no records yet
-pub start : (plan : Plan) → plan ≡ empty-plan → Taken [] (record { checked = Checked.Passed; plan = plan; last = PlanRecord.End })
+pub none-taken : (plan : Plan) → plan ≡ empty-plan → Taken [] (record { checked = Checked.Passed; plan = plan; last = PlanRecord.End })
 unfolding value records-fault
-start plan e = record { fault-is = refl; held = λ z. (e, refl) }
+none-taken plan e = record { fault-is = refl; held = λ z. (e, refl) }
 
 module _ (old : Audit) (next : PlanRecord) where
   -- behind a fault
-  pub kept : (toldCheck (old .checked) ≡ 0 → ⊥) → Takes old next old
-  kept bad-yet rs r so e =
+  pub fault-stays : (toldCheck (old .checked) ≡ 0 → ⊥) → Takes old next old
+  fault-stays bad-yet rs r so e =
       let bad : records-fault six rs ≡ 0 → ⊥ = λ z. bad-yet (so .fault-is ∙ z) in
       let same = fault-kept six rs r bad in
       record { fault-is = so .fault-is ∙ sym same; held = λ z. absurd (bad (sym same ∙ z)) }
@@ -69,9 +69,11 @@ module _ (old : Audit) (next : PlanRecord) where
         record {
           fault-is = its;
           held = λ z.
+              let over-value : over (old .plan) (old .last) next ≡ over (value rs) (last-of rs) (of-record r)
+              = ap (over (old .plan) (old .last)) e ∙ ap₂ (λ (p : Plan) (l : PlanRecord). over p l (of-record r)) (w .0) (w .1) in
               let fits : Storable (value rs .edges) (of-record r)
               = storable (value rs .threads) (value rs .places) (value rs .edges) (last-of rs) (of-record r)
-              (sym (ap₂ (λ (p : Plan) (l : PlanRecord). over p l (of-record r)) (w .0) (w .1)) ∙ sym (ap (over (old .plan) (old .last)) e) ∙ sym told ∙ its ∙ z) in
+              (sym over-value ∙ sym told ∙ its ∙ z) in
               (new ∙ same ∙ stored-same (value rs) r fits, e);
         }
 

@@ -73,6 +73,12 @@ call-more cells next cs ds i so-far turn n m hn hm =
     rw (add-one i)
     (turn n m hn hm ∙ ap (λ (t : Bool). (eqb (getD cs i 0) n && eqb (getD ds i 0) m) || t) (so-far n m hn hm))
 
+-- the loop's invariant: the first i edges are marked
+pub record Marked (p : Plan) (cells : List ℕ) (i : ℕ) : Type 0 where
+  pub done : Is cells (calls (edge-records (p .callers) (p .callees) i []))
+  pub within-count : i ≤ min (p .edges) most-edges
+  pub table : length cells ≡ nodes * nodes
+
 pub call-all : (p : Plan) (cells : List ℕ) (i : ℕ) → i ≡ min (p .edges) most-edges → Is cells (calls (edge-records (p .callers) (p .callees) i []))
     → Is cells (calls (records-of p))
 call-all p cells i e so n m hn hm =
@@ -166,10 +172,24 @@ rowed-more old new n row m long hn hm b is so-far =
     kept : (i k : ℕ) → k < nodes → (nodes * i + k ≡ x → ⊥) → on next i k ≡ on new i k
     kept i k hk apart = on-lit next i k hk ∙ lit-ap (getD-set-other new x (nodes * i + k) (boolByte b) 0 apart) ∙ sym (on-lit new i k hk)
 
--- the rows of the nodes below n
-pub rows-more : (cells next : List ℕ) (steps : ℕ → ℕ → Bool) (n : ℕ) → ((i : ℕ) → i < n → (m : ℕ) → m < nodes → on cells i m ≡ steps i m)
-    → Rowed cells next n (steps n) nodes → (i : ℕ) → i < n + 1 → (m : ℕ) → m < nodes → on next i m ≡ steps i m
-rows-more cells next steps n so-far row =
-    below-more (λ i. (m : ℕ) → m < nodes → on next i m ≡ steps i m) n
-    (λ i h m hm. row .other i m (λ e. omega arith) hm ∙ so-far i h m hm)
-    (λ m hm. row .done m hm)
+-- the loop's invariant: the rows of the nodes below n are written
+pub record Rows (places levels cells : List ℕ) (n : ℕ) : Type 0 where
+  pub done : (i : ℕ) → i < n → (m : ℕ) → m < nodes → on cells i m ≡ steps-in places levels i m
+  pub up-to : n ≤ nodes
+  pub table : length cells ≡ nodes * nodes
+  pub placed : length places ≡ nodes
+  pub levelled : length levels ≡ nodes
+
+pub rows-more : {places levels cells next : List ℕ} {n : ℕ} → Rows places levels cells n → n < nodes
+    → Rowed cells next n (steps-in places levels n) nodes → Rows places levels next (n + 1)
+rows-more {places} {levels} {cells} {next} {n} so-far inside row =
+    record {
+      done =
+          below-more (λ i. (m : ℕ) → m < nodes → on next i m ≡ steps-in places levels i m) n
+          (λ i h m hm. row .other i m (λ e. omega arith) hm ∙ so-far .done i h m hm)
+          (λ m hm. row .done m hm);
+      up-to = omega arith;
+      table = row .long ∙ so-far .table;
+      placed = so-far .placed;
+      levelled = so-far .levelled;
+    }

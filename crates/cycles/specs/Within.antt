@@ -1,5 +1,5 @@
 -- The part of a relation that a table can hold, and a row of a table. Assumes nothing.
-use Prim.Native.Nat.{ℕ, _<_}
+use Prim.Native.Nat.{ℕ, _*_, _<_}
 use mathlib.Core.Path.{_≡_}
 use mathlib.Core.Bool.{Bool, false, _&&_, cond}
 use mathlib.Core.List.{List}
@@ -25,3 +25,17 @@ pub record Rowed (old new : List ℕ) (n : ℕ) (row : ℕ → Bool) (count : �
   pub done : (m : ℕ) → m < count → on new n m ≡ row m
   pub other : (i m : ℕ) → (i ≡ n → ⊥) → m < nodes → on new i m ≡ on old i m
   pub long : length new ≡ length old
+
+-- Arrays that are lent: the places and the levels of all nodes
+
+pub record StepAsked (places levels : List ℕ) (n m : ℕ) : Type 0 where
+  pub placed : length places ≡ nodes
+  pub levelled : length levels ≡ nodes
+  pub from-node : n < nodes
+  pub to-node : m < nodes
+
+pub record RowAsked (cells places levels : List ℕ) (n : ℕ) : Type 0 where
+  pub table : length cells ≡ nodes * nodes
+  pub placed : length places ≡ nodes
+  pub levelled : length levels ≡ nodes
+  pub row-node : n < nodes

@@ -164,14 +164,14 @@ none-of-both (t ∷ ts) bs n = go (t .0) (none-of-both ts bs (and-right (not (eq
     go true rest = rest
     go false rest = ((λ e. absurd (real e)), (λ h. absurd (real (h .0))))
 
-pub record Sound (levels : Levels) (rs : List Record) (r : Record) : Type 0 where
+pub record NoFault (levels : Levels) (rs : List Record) (r : Record) : Type 0 where
   pub rises : follows rs r ≡ true
   pub in-limits : in-range r ≡ true
   pub named : known rs r ≡ true
   pub level : first-fault (levels .tests rs r) ≡ 0
   pub room : room-for rs r ≡ true
 
-pub record-sound : (levels : Levels) (rs : List Record) (r : Record) → (record-fault levels rs r ≡ 0) ↔ Sound levels rs r
+pub record-sound : (levels : Levels) (rs : List Record) (r : Record) → (record-fault levels rs r ≡ 0) ↔ NoFault levels rs r
 unfolding record-fault
 record-sound levels rs r = (from, into)
   where
@@ -190,7 +190,7 @@ record-sound levels rs r = (from, into)
     five : (cond (known rs r) behind-level 5 ≡ 0) ↔ (known rs r ≡ true) × (behind-level ≡ 0)
     five = passed (known rs r) behind-level 4
 
-    from : record-fault levels rs r ≡ 0 → Sound levels rs r
+    from : record-fault levels rs r ≡ 0 → NoFault levels rs r
     from e =
         let a = three .0 e in
         let b = four .0 (a .1) in
@@ -198,7 +198,7 @@ record-sound levels rs r = (from, into)
         let d = both .0 (c .1) in
         record { rises = a .0; in-limits = b .0; named = c .0; level = d .0; room = passed (room-for rs r) 0 8 .0 (d .1) .0 }
 
-    into : Sound levels rs r → record-fault levels rs r ≡ 0
+    into : NoFault levels rs r → record-fault levels rs r ≡ 0
     into h =
         three .1 (h .rises, four .1 (h .in-limits, five .1 (h .named, both .1 (h .level, passed (room-for rs r) 0 8 .1 (h .room, refl)))))
 

@@ -123,7 +123,8 @@ module _ (p : Plan) where
         ∙ past-nodes (λ qs. threads qs s) (λ n r l qs. refl)
         ∙ ⊎-elim
         (λ (h : s < sites).
-        each-find (λ qs. threads qs s) (site-at (p .threads)) sites s [] h (λ i qs l. other i qs (λ e. omega arith)) ∙ here (eqb (getD (p .threads) s 0) 0) refl)
+        each-find (λ qs. threads qs s) (site-at (p .threads)) sites s [] h (λ i qs l. other i qs (λ e. omega arith))
+        ∙ here (eqb (getD (p .threads) s 0) 0) refl)
         (λ (h : sites ≤ s).
         each-skip (λ qs. threads qs s) (site-at (p .threads)) sites [] (λ i qs l. other i qs (λ e. omega arith))
         ∙ sym (List·getD-eq-default (p .threads) 0 {n = s} (omega (arith, sized .threads))))
@@ -167,13 +168,14 @@ module _ (p : Plan) where
 
         other : (i : ℕ) (qs : List Record) → (i ≡ n → ⊥) → place (push (node-at (p .places) (p .levels) i) qs) n ≡ place qs n
         other i qs ne =
-            skip-some (λ qs. place qs n) qs (node i (getD (p .places) i nowhere) (getD (p .levels) i 0)) (rw (ne-eqb i n ne)) (somewhere (getD (p .places) i nowhere))
+            skip-some (λ qs. place qs n) qs (node i (getD (p .places) i nowhere) (getD (p .levels) i 0)) (rw (ne-eqb i n ne))
+            (somewhere (getD (p .places) i nowhere))
 
         found : Place
         found = record { at = getD (p .places) n nowhere; level = getD (p .levels) n 0 }
 
         here : (b : Bool) → somewhere (getD (p .places) n nowhere) ≡ b
-            → place (push (cond b (some (node n (getD (p .places) n nowhere) (getD (p .levels) n 0))) none) (each (node-at (p .places) (p .levels)) n its-sites)) n
+            → place (push (cond b (some (node n (found .at) (found .level))) none) (each (node-at (p .places) (p .levels)) n its-sites)) n
             ≡ cond b (some found) none
         here true e = rw (eq-eqb n n refl)
         here false e =

@@ -31,10 +31,10 @@ never-falls (by-kind a) = omega arith
 never-falls (by-number a b) = omega arith
 never-falls (by-called a b c) = omega arith
 
-pub within : {q r : Record} → Rises q r → kind q ≡ kind r → (number q < number r) ⊎ ((number q ≡ number r) × (called q < called r))
-within (by-kind a) e = absurd (omega arith)
-within (by-number a b) e = inl b
-within (by-called a b c) e = inr (b, c)
+pub within-kind : {q r : Record} → Rises q r → kind q ≡ kind r → (number q < number r) ⊎ ((number q ≡ number r) × (called q < called r))
+within-kind (by-kind a) e = absurd (omega arith)
+within-kind (by-number a b) e = inl b
+within-kind (by-called a b c) e = inr (b, c)
 
 -- the test on the record before decides it
 or-cases : (a b : Bool) → (a || b) ≡ true → (a ≡ true) ⊎ (b ≡ true)
@@ -63,11 +63,11 @@ test-rises (edge c d) (edge f g) rs e =
 
 rises-test : (q r : Record) (rs : List Record) → Rises q r → follows (q ∷ rs) r ≡ true
 unfolding follows
-rises-test (site s t) (site r u) rs h = ⊎-elim (λ p. lt-ltb s r p) (λ p. absurd (omega (arith, p .1))) (within h refl)
+rises-test (site s t) (site r u) rs h = ⊎-elim (λ p. lt-ltb s r p) (λ p. absurd (omega (arith, p .1))) (within-kind h refl)
 rises-test (site s t) (node n r l) rs h = refl
 rises-test (site s t) (edge c d) rs h = refl
 rises-test (node n s l) (site r u) rs h = absurd (omega (arith, never-falls h))
-rises-test (node n s l) (node m r k) rs h = ⊎-elim (λ p. lt-ltb n m p) (λ p. absurd (omega (arith, p .1))) (within h refl)
+rises-test (node n s l) (node m r k) rs h = ⊎-elim (λ p. lt-ltb n m p) (λ p. absurd (omega (arith, p .1))) (within-kind h refl)
 rises-test (node n s l) (edge c d) rs h = refl
 rises-test (edge c d) (site r u) rs h = absurd (omega (arith, never-falls h))
 rises-test (edge c d) (node m r k) rs h = absurd (omega (arith, never-falls h))
@@ -75,7 +75,7 @@ rises-test (edge c d) (edge f g) rs h =
     ⊎-elim
     (λ p. rw (lt-ltb c f p))
     (λ p. or-right (ltb c f) (eqb c f && ltb d g) (and-both (eqb c f) (ltb d g) (eq-eqb c f (p .0)) (lt-ltb d g (p .1))))
-    (within h refl)
+    (within-kind h refl)
 
 pub follows-all : (rs : List Record) (r : Record) → Rising rs → follows rs r ≡ true → (q : Record) → List·Memᴰ q rs → Rises q r
 follows-all [] r h e q m = absurd (List·Memᴰ·not-nil m)
@@ -97,7 +97,7 @@ past h m = ⊎-elim (λ e. absurd (h (ap kind e))) (λ i. i) (List·Memᴰ·case
 
 -- where nothing is called, the numbers of a kind rise
 pub rises-number : {q r : Record} → Rises q r → kind q ≡ kind r → called r ≡ 0 → number q < number r
-rises-number h e z = ⊎-elim (λ p. p) (λ p. absurd (omega (arith, p .1))) (within h e)
+rises-number h e z = ⊎-elim (λ p. p) (λ p. absurd (omega (arith, p .1))) (within-kind h e)
 
 module _ {X : Type 0} (how : Record → Option X) where
   in-push : {x : X} {xs : List X} (o : Option X) → List·Memᴰ x xs → List·Memᴰ x (push o xs)

@@ -15,7 +15,7 @@ use Rattle.model.specs.Plan.{Record, site, node, edge, edges-of, threads
 use Rattle.model.specs.Records.{kind, RecordsOk}
 use Rattle.model.specs.PlanValue.{nowhere, somewhere, empty-plan, value, each, site-at, node-at, edge-at, records-of, held}
 use Rattle.model.specs.declared.Plan.{Plan}
-use Rattle.model.proofs.KindLaws.{never-falls, within, in-edges}
+use Rattle.model.proofs.KindLaws.{never-falls, within-kind, in-edges}
 use Rattle.model.proofs.RecordLaws.{threads-listed, place-listed, without-latest}
 use Rattle.model.proofs.HeldLaws.{Sized, each-skip, each-same, each-more, its-sites, its-nodes, records-each, threads-of, place-of, present-held}
 
@@ -122,7 +122,7 @@ one-more rs (site s t) ok same =
     (rw (getD-set-same ts s t 0 (omega (arith, range .0, value-sized rs .threads)), ne-eqb t 0 (λ z. omega (arith, range .1))))
     (λ i l.
     rw (threads-yet rs (site s t) ok same i
-    (λ u m. ⊎-elim (λ h. omega arith) (λ h. omega (arith, h .1)) (within (ok .rising .1 (site i u) m) refl))))
+    (λ u m. ⊎-elim (λ h. omega arith) (λ h. omega (arith, h .1)) (within-kind (ok .rising .1 (site i u) m) refl))))
     ∙ ap (_∷_ (site s t)) (sym (only-sites (value rs) no-edge no-node))
   where
     ts : List ℕ
@@ -148,7 +148,7 @@ one-more rs (node n s l) ok same =
     ))
     (λ i h.
     rw (nodes-yet rs (node n s l) ok same i
-    (λ r k m. ⊎-elim (λ g. omega arith) (λ g. omega (arith, g .1)) (within (ok .rising .1 (node i r k) m) refl))))
+    (λ r k m. ⊎-elim (λ g. omega arith) (λ g. omega (arith, g .1)) (within-kind (ok .rising .1 (node i r k) m) refl))))
     ∙ ap (_∷_ (node n s l)) (sym (only-nodes (value rs) no-edge))
   where
     ps : List ℕ

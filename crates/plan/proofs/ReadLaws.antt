@@ -65,8 +65,8 @@ module _ (bytes : List ℕ) (plan : Plan) (last : PlanRecord) (at : ℕ) (way : 
   ok = passes-ok six (way .records) (way .passing)
 
   -- no further than the bytes go
-  pub within : at ≤ length bytes
-  within = omega (arith, ap length (way .split) ∙ length-append (records-bytes (way .records)) (drop at bytes), way .at-is)
+  pub inside-bytes : at ≤ length bytes
+  inside-bytes = omega (arith, ap length (way .split) ∙ length-append (records-bytes (way .records)) (drop at bytes), way .at-is)
 
   refuses : (n : ℕ) → (n ≡ 0 → ⊥) → fault-at six unchecked (way .records) (drop at bytes) ≡ n → scanned bytes ≡ refused n at
   unfolding scanned

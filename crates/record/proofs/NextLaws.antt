@@ -19,9 +19,9 @@ use Rattle.record.specs.declared.NextRecord.{NextRecord}
 
 module _ (bytes : List ℕ) (at : ℕ) where
   -- no kind byte
-  pub past : length bytes ≤ at → NextRecord.Cut ≡ next-in bytes at
+  pub lacks-kind : length bytes ≤ at → NextRecord.Cut ≡ next-in bytes at
   unfolding next
-  past h = rw (drop-of-length-le bytes h)
+  lacks-kind h = rw (drop-of-length-le bytes h)
 
   module _ (inside : at < length bytes) where
     opened : next plan-kinds (drop at bytes) ≡ of-kind (plan-kinds (getD bytes at 0)) (getD bytes at 0) (drop (suc at) bytes)
@@ -41,9 +41,10 @@ module _ (bytes : List ℕ) (at : ℕ) where
           let t = lt-leb size (length (drop (suc at) bytes)) (omega (arith, length-drop (suc at) bytes)) in
           sym (ap (λ n. from-next n at) (known ∙ ap (λ (b : Bool). body-of b (getD bytes at 0) size (drop (suc at) bytes)) t))
 
-      pub full : size ≤ length bytes - at - 1 → (found : PlanRecord) → found ≡ record-of (getD bytes at 0) (take (at + 1 + size - (at + 1)) (drop (at + 1) bytes))
+      pub complete : size ≤ length bytes - at - 1 → (found : PlanRecord)
+          → found ≡ record-of (getD bytes at 0) (take (at + 1 + size - (at + 1)) (drop (at + 1) bytes))
           → NextRecord.Whole found (at + 1 + size) ≡ next-in bytes at
-      full h found is =
+      complete h found is =
           let l : size ≤ length (drop (suc at) bytes) = omega (arith, length-drop (suc at) bytes) in
           let t = le-leb size (length (drop (suc at) bytes)) l in
           let counted : at + 1 + size - (at + 1) ≡ size = omega arith in

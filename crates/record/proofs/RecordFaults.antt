@@ -52,9 +52,9 @@ module _ (rs : List Record) (ok : RecordsOk rs) where
       (edges-value rs)
 
 -- a test that gives no number holds
-held : (b : Bool) (x n : ℕ) → cond b x (suc n) ≡ 0 → (b ≡ true) × (x ≡ 0)
-held true x n e = (refl, e)
-held false x n e = absurd (omega arith)
+passed-test : (b : Bool) (x n : ℕ) → cond b x (suc n) ≡ 0 → (b ≡ true) × (x ≡ 0)
+passed-test true x n e = (refl, e)
+passed-test false x n e = absurd (omega arith)
 
 -- a record that passes its checks has a place in the value
 abbrev pub Storable : ℕ → PlanRecord → Type 0
@@ -64,16 +64,16 @@ Storable edges (PlanRecord.Edge c d) = edges < most-edges
 Storable edges PlanRecord.End = Unit {0}
 
 pub storable : (threads places : List ℕ) (edges : ℕ) (last r : PlanRecord) → value-fault threads places edges last r ≡ 0 → Storable edges r
-storable threads places edges last r e = go r (held (follows-last last r) (kind-fault threads places edges r) 2 e .1)
+storable threads places edges last r e = go r (passed-test (follows-last last r) (kind-fault threads places edges r) 2 e .1)
   where
     go : (q : PlanRecord) → kind-fault threads places edges q ≡ 0 → Storable edges q
     go (PlanRecord.Site s t) f =
         let more = ltb 0 t && leb t most-threads in
-        ltb-true (s .0) sites (and-left (ltb (s .0) sites) more (held (ltb (s .0) sites && more) 0 3 f .0))
-    go (PlanRecord.Node n s l) f = ltb-true (n .0) nodes (held (ltb (n .0) nodes) _ 3 f .0)
+        ltb-true (s .0) sites (and-left (ltb (s .0) sites) more (passed-test (ltb (s .0) sites && more) 0 3 f .0))
+    go (PlanRecord.Node n s l) f = ltb-true (n .0) nodes (passed-test (ltb (n .0) nodes) _ 3 f .0)
     go (PlanRecord.Edge c d) f =
-        let known-both = held (listed-node places (c .0) && listed-node places (d .0)) (cond (ltb edges most-edges) 0 9) 4 f in
-        ltb-true edges most-edges (held (ltb edges most-edges) 0 8 (known-both .1) .0)
+        let known-both = passed-test (listed-node places (c .0) && listed-node places (d .0)) (cond (ltb edges most-edges) 0 9) 4 f in
+        ltb-true edges most-edges (passed-test (ltb edges most-edges) 0 8 (known-both .1) .0)
     go PlanRecord.End f = tt
 
 pub stored-same : (p : Plan) (r : Record) → Storable (p .edges) (of-record r) → stored-in p (of-record r) ≡ stored p r

@@ -3,12 +3,12 @@
 use mathlib.Core.Path.{ap}
 use borrow.Author.Needs.{needs}
 use Rattle.record.specs.Step.{toldCheck}
-use Rattle.audit.proofs.TakenLaws.{real, kept, found, held-now}
+use Rattle.audit.proofs.TakenLaws.{refusal-counts, fault-stays, found, held-now}
 use Rattle.audit.proofs.take.Statement.{statement}
 use Rattle.audit.proofs.take.Tie as tie
 
 returns : tie.Need-returns
-returns c = kept (c .before .before .args .audit) (c .before .before .args .next) (real (c .enum-told .given .1))
+returns c = fault-stays (c .before .before .args .audit) (c .before .before .args .next) (refusal-counts (c .enum-told .given .1))
 
 -- there was no fault so far
 abbrev at-passed : tie.After-check → tie.After-enum-told2
@@ -20,7 +20,7 @@ returns-2 c =
     let passed = at-passed check in
     let s = passed .before .before in
     found (s .args .audit) (s .args .next) (ap toldCheck (passed .enum-told2 .given .1)) (check .check .result) (check .check .ensures)
-    (real (c .enum-told3 .given .1))
+    (refusal-counts (c .enum-told3 .given .1))
 
 returns-3 : tie.Need-returns-3
 returns-3 c =

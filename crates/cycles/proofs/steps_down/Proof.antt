@@ -5,25 +5,13 @@ use borrow.Author.Needs.{needs}
 use Rattle.cycles.proofs.steps_down.Statement.{statement}
 use Rattle.cycles.proofs.steps_down.Tie as tie
 
-shared-slice-read-at : tie.Need-shared-slice-read-at
-shared-slice-read-at c = search needs
-
 returns : tie.Need-returns
 unfolding steps-in
 returns c = simp (eq-eqb _ _ (c .if1 .taken))
 
-shared-slice-read-if2 : tie.Need-shared-slice-read-if2
-shared-slice-read-if2 c = search needs
-
 returns-2 : tie.Need-returns-2
 unfolding steps-in
 returns-2 c = simp (ne-eqb _ _ (c .before .before .if1 .left), ne-eqb _ _ (c .if2 .taken))
-
-shared-slice-read-result : tie.Need-shared-slice-read-result
-shared-slice-read-result c = search needs
-
-shared-slice-read-result-2 : tie.Need-shared-slice-read-result-2
-shared-slice-read-result-2 c = search needs
 
 returns-3 : tie.Need-returns-3
 unfolding steps-in
@@ -33,10 +21,10 @@ pub steps-down-spec : {M : Type 1} → statement M
 steps-down-spec =
     tie.close
     (tie.spec
-    shared-slice-read-at
+    (λ c. search needs)
     returns
-    shared-slice-read-if2
+    (λ c. search needs)
     returns-2
-    shared-slice-read-result
-    shared-slice-read-result-2
+    (λ c. search needs)
+    (λ c. search needs)
     returns-3)

@@ -12,26 +12,8 @@ Inv-loop plan count₀ i₀ count i = (i ≤ 16) × (count ≤ i)
 abbrev μ-loop : tie.MeasureT-loop
 μ-loop plan count₀ i₀ count i = 16 - i
 
-loop-holds : tie.Need-loop-holds Inv-loop μ-loop
-loop-holds c = search needs
-
-element-copy-out-if1 : tie.Need-element-copy-out-if1 Inv-loop μ-loop
-element-copy-out-if1 c = search needs
-
-add-count : tie.Need-add-count Inv-loop μ-loop
-add-count c = search needs
-
-add-i : tie.Need-add-i Inv-loop μ-loop
-add-i c = search needs
-
-loop-less : tie.Need-loop-less Inv-loop μ-loop
-loop-less c = search needs
-
 loop-again : tie.Need-loop-again Inv-loop μ-loop
 loop-again c = ⊎-elim (λ w. omega arith) (λ w. omega arith) (c .if1 .came)
-
-returns : tie.Need-returns Inv-loop μ-loop
-returns c = search needs
 
 pub sites-spec : {M : Type 1} → statement M
 sites-spec =
@@ -39,10 +21,10 @@ sites-spec =
     (tie.spec
     Inv-loop
     μ-loop
-    loop-holds
-    element-copy-out-if1
-    add-count
-    add-i
-    loop-less
+    (λ c. search needs)
+    (λ c. search needs)
+    (λ c. search needs)
+    (λ c. search needs)
+    (λ c. search needs)
     loop-again
-    returns)
+    (λ c. search needs))

@@ -14,7 +14,7 @@ use Rattle.model.specs.declared.PlanRefusal.{PlanRefusal}
 use Rattle.record.specs.Step.{of-record, next-in, toldCheck, value-fault}
 use Rattle.record.specs.declared.NextRecord.{NextRecord}
 use Rattle.record.proofs.RecordFaults.{Storable, storable}
-use Rattle.plan.proofs.ReadLaws.{Way, start, within, cut-only, unknown-stops, cut-stops, end-stops, stopped, stepped}
+use Rattle.plan.proofs.ReadLaws.{Way, start, inside-bytes, cut-only, unknown-stops, cut-stops, end-stops, stopped, stepped}
 use Rattle.plan.proofs.AnswerLaws.{refused-answers, accepted-answers}
 use Rattle.plan.proofs.scan.Statement.{statement}
 use Rattle.plan.proofs.scan.Tie as tie
@@ -83,7 +83,7 @@ less : (c : tie.After-enum-told2 Inv-loop μ-loop) (r : Record)
 less c r is =
     let loop = at-next (at-found (at-check c)) .before in
     let w = went c r is in
-    omega (arith, w .0, within (bytes-at loop) _ _ _ (w .1))
+    omega (arith, w .0, inside-bytes (bytes-at loop) _ _ _ (w .1))
 
 -- The ways out
 

@@ -35,4 +35,12 @@ returns-4 c =
     )
 
 pub check-edge-spec : {M : Type 1} → statement M
-check-edge-spec = tie.close (tie.spec (λ c κs. search needs) returns (λ c κs. search needs) returns-2 returns-3 returns-4)
+check-edge-spec =
+    tie.close
+    (tie.spec
+    (λ c κs. search needs)
+    returns
+    (λ c κs. search needs)
+    returns-2
+    returns-3
+    returns-4)

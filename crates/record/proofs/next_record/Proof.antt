@@ -3,13 +3,13 @@
 use mathlib.Core.Path.{sym, ap, _∙_}
 use denote.Ref.{now}
 use Rattle.record.specs.Step.{body-told}
-use Rattle.record.proofs.NextLaws.{past, strange, short, full}
+use Rattle.record.proofs.NextLaws.{lacks-kind, strange, short, complete}
 use borrow.Author.Needs.{needs}
 use Rattle.record.proofs.next_record.Statement.{statement}
 use Rattle.record.proofs.next_record.Tie as tie
 
 returns : tie.Need-returns
-returns c = past (now (c .before .before .args .bytes)) (c .before .before .args .at) (c .if1 .taken)
+returns c = lacks-kind (now (c .before .before .args .bytes)) (c .before .before .args .at) (c .if1 .taken)
 
 returns-2 : tie.Need-returns-2
 returns-2 c =
@@ -35,7 +35,7 @@ returns-4 c =
     let at-kind = known .before .before in
     let inside = at-kind .before .before in
     let s = inside .before .before in
-    full (now (s .args .bytes)) (s .args .at) (inside .if1 .left) (known .size .given .0 .0)
+    complete (now (s .args .bytes)) (s .args .at) (inside .if1 .left) (known .size .given .0 .0)
     (sym (at-kind .body-length .ensures) ∙ ap body-told (known .size .given .1))
     (fits .if2 .left) (c .record-in .result) (c .record-in .ensures)
 
