@@ -1,16 +1,16 @@
--- The order of a plan's records, and its records of one kind: the test on the record before decides the order of all, and what is chosen from the
--- records is what they hold. Assumes nothing.
+-- The order of a plan's records, and its records of one kind: the test on the record before decides the order of all, what is chosen from the
+-- records is what they hold, and a lookup by number finds it. Assumes nothing.
 use Prim.Native.Nat.{ℕ, _≤_, _<_}
 use native.Mathlib.Omega.{arith}
-use mathlib.Core.Path.{_≡_, refl, sym, ap, subst, _∙_}
+use mathlib.Core.Path.{_≡_, refl, sym, ap, ap₂, subst, _∙_}
 use mathlib.Core.Logic.{_⊎_, inl, inr, ⊎-elim}
-use mathlib.Core.Bool.{Bool, true, false, _&&_, _||_}
+use mathlib.Core.Bool.{Bool, true, false, _&&_, _||_, cond}
 use mathlib.Core.List.{List, [], _∷_, List·Memᴰ, List·Memᴰ·head, List·Memᴰ·tail, List·Memᴰ·not-nil, List·Memᴰ·cases-cons}
 use mathlib.Core.Option.{Option, none, some}
 use lib.Dec.{ltb, eqb}
-use borrow.Author.Tests.{ltb-true, lt-ltb, eqb-true, eq-eqb}
+use borrow.Author.Tests.{ltb-true, lt-ltb, eqb-true, eq-eqb, ne-eqb}
 use Rattle.lists.proofs.CountLaws.{never-both, and-left, and-right, and-both}
-use Rattle.model.specs.Plan.{Record, site, node, edge, Place, as-site, as-node, as-edge, push, chosen, sites-of, nodes-of, edges-of, follows}
+use Rattle.model.specs.Plan.{Record, site, node, edge, Place, as-site, as-node, as-edge, push, chosen, sites-of, nodes-of, edges-of, entry, follows}
 use Rattle.model.specs.Records.{kind, number, called, Rises, by-kind, by-number, by-called, Rising}
 
 -- Order
@@ -163,3 +163,44 @@ module _ (rs : List Record) where
 
   pub edges-in : {c d : ℕ} → List·Memᴰ (edge c d) rs → List·Memᴰ (c, d) (edges-of rs)
   edges-in {c} {d} m = in-chosen as-edge rs (edge c d) (c, d) refl m
+
+-- What stands under a number
+
+-- the numbers of the entries fall
+abbrev pub Falling : {X : Type 0} → List (ℕ × X) → Type 0
+Falling [] = Unit {0}
+Falling {X} (e ∷ es) = Falling es × ((d : ℕ × X) → List·Memᴰ d es → d .0 < e .0)
+
+module _ {X : Type 0} where
+  pub entry-in : (es : List (ℕ × X)) (n : ℕ) (x : X) → entry es n ≡ some x → List·Memᴰ (n, x) es
+  entry-in [] n x e = let z : _≡_ {A = ℕ} 0 1 = cc in absurd (omega arith)
+  entry-in (d ∷ es) n x e = go (eqb (d .0) n) refl e (entry-in es n x)
+    where
+      go : (b : Bool) → eqb (d .0) n ≡ b → cond b (some (d .1)) (entry es n) ≡ some x → (entry es n ≡ some x → List·Memᴰ (n, x) es)
+          → List·Memᴰ (n, x) (d ∷ es)
+      go true q f ih =
+          let held : x ≡ d .1 = cc in
+          let found : (n, x) ≡ d = ap₂ (λ (k : ℕ) (y : X). (k, y)) (sym (eqb-true (d .0) n q)) held in
+          List·Memᴰ·head found
+      go false q f ih = List·Memᴰ·tail (ih f)
+
+  pub in-entry : (es : List (ℕ × X)) (n : ℕ) (x : X) → Falling es → List·Memᴰ (n, x) es → entry es n ≡ some x
+  in-entry [] n x h m = absurd (List·Memᴰ·not-nil m)
+  in-entry (d ∷ es) n x h m =
+      ⊎-elim
+      (λ (e : (n, x) ≡ d).
+      let same : d .0 ≡ n = ap (λ (p : ℕ × X). p .0) (sym e) in
+      let held : d .1 ≡ x = ap (λ (p : ℕ × X). p .1) (sym e) in
+      rw (eq-eqb (d .0) n same, held))
+      (λ i. rw (ne-eqb (d .0) n (λ e. omega (arith, h .1 (n, x) i))) (in-entry es n x (h .0) i))
+      (List·Memᴰ·cases-cons m)
+
+  pub falling : (how : Record → Option (ℕ × X))
+      → ((q r : Record) (x y : ℕ × X) → Rises q r → how q ≡ some x → how r ≡ some y → x .0 < y .0)
+      → (rs : List Record) → Rising rs → Falling (chosen how rs)
+  falling how key [] h = tt
+  falling how key (r ∷ rs) h = go (how r) refl (falling how key rs (h .0))
+    where
+      go : (o : Option (ℕ × X)) → how r ≡ o → Falling (chosen how rs) → Falling (push o (chosen how rs))
+      go none e ih = ih
+      go (some y) e ih = (ih, (λ d m. let w = chosen-in how rs d m in key (w .0) r d y (h .1 (w .0) (w .1)) (w .2) e))

@@ -4,7 +4,9 @@ pub mod PaperLaws
 pub mod TreeLaws
 pub mod AnswerLaws
 pub mod GraphLaws
+pub mod TestLaws
 pub mod FaultLaws
+pub mod TurnLaws
 pub mod ReadingLaws
 pub mod EncodeLaws
 pub mod KindLaws

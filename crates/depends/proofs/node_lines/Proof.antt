@@ -5,14 +5,15 @@ use borrow.Author.Needs.{needs}
 use mathlib.Core.Path.{_≡_}
 use mathlib.Core.Logic.{⊎-elim}
 use lib.ListN.{length}
+use Rattle.ids.specs.Limits.{nodes}
 use Rattle.depends.proofs.node_lines.Statement.{statement}
 use Rattle.depends.proofs.node_lines.Tie as tie
 
 abbrev Inv-loop : tie.InvT-loop
-Inv-loop text₀ start plan table at₀ n₀ text at n = (n ≤ 64) × (length text ≡ length text₀)
+Inv-loop text₀ start plan table at₀ n₀ text at n = (n ≤ nodes) × (length text ≡ length text₀)
 
 abbrev μ-loop : tie.MeasureT-loop
-μ-loop text₀ start plan table at₀ n₀ text at n = 64 - n
+μ-loop text₀ start plan table at₀ n₀ text at n = nodes - n
 
 loop-again : tie.Need-loop-again Inv-loop μ-loop
 loop-again c = ⊎-elim (λ w. (omega arith, search needs)) (λ w. (omega arith, search needs)) (c .if1 .came)

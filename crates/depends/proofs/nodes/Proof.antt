@@ -3,14 +3,15 @@ use Prim.Native.Nat.{_-_, _≤_}
 use native.Mathlib.Omega.{arith}
 use borrow.Author.Needs.{needs}
 use mathlib.Core.Logic.{⊎-elim}
+use Rattle.ids.specs.Limits.{nodes}
 use Rattle.depends.proofs.nodes.Statement.{statement}
 use Rattle.depends.proofs.nodes.Tie as tie
 
 abbrev Inv-loop : tie.InvT-loop
-Inv-loop plan count₀ i₀ count i = (i ≤ 64) × (count ≤ i)
+Inv-loop plan count₀ i₀ count i = (i ≤ nodes) × (count ≤ i)
 
 abbrev μ-loop : tie.MeasureT-loop
-μ-loop plan count₀ i₀ count i = 64 - i
+μ-loop plan count₀ i₀ count i = nodes - i
 
 loop-again : tie.Need-loop-again Inv-loop μ-loop
 loop-again c = ⊎-elim (λ w. omega arith) (λ w. omega arith) (c .if1 .came)

@@ -3,14 +3,15 @@ use Prim.Native.Nat.{_-_, _≤_}
 use native.Mathlib.Omega.{arith}
 use borrow.Author.Needs.{needs}
 use mathlib.Core.Logic.{⊎-elim}
+use Rattle.ids.specs.Limits.{sites}
 use Rattle.depends.proofs.sites.Statement.{statement}
 use Rattle.depends.proofs.sites.Tie as tie
 
 abbrev Inv-loop : tie.InvT-loop
-Inv-loop plan count₀ i₀ count i = (i ≤ 16) × (count ≤ i)
+Inv-loop plan count₀ i₀ count i = (i ≤ sites) × (count ≤ i)
 
 abbrev μ-loop : tie.MeasureT-loop
-μ-loop plan count₀ i₀ count i = 16 - i
+μ-loop plan count₀ i₀ count i = sites - i
 
 loop-again : tie.Need-loop-again Inv-loop μ-loop
 loop-again c = ⊎-elim (λ w. omega arith) (λ w. omega arith) (c .if1 .came)
