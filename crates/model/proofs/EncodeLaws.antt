@@ -27,14 +27,14 @@ record-first : (r q : Record) (c d : List ℕ) → bytes-of r ++ c ≡ bytes-of 
 record-first r q c d e =
     let w = next-record r c in
     let v = next-record q d in
-    let same = same-whole (w .0) (v .0) (w .1) (v .1) c d (sym (w .2) ∙ ap (next plan-kinds) e ∙ v .2) in
-    let told : some r ≡ some q = sym (w .3) ∙ same .0 ∙ v .3 in
+    let same = same-whole (w .kind) (v .kind) (w .body) (v .body) c d (sym (w .next-is) ∙ ap (next plan-kinds) e ∙ v .next-is) in
+    let told : some r ≡ some q = sym (w .decodes) ∙ same .0 ∙ v .decodes in
     ((cc), same .1)
 
 never-end : (r : Record) (c d : List ℕ) → bytes-of r ++ c ≡ 4 ∷ d → ⊥
 never-end r c d e =
     let w = next-record r c in
-    let told : some r ≡ none = sym (w .3) ∙ same-whole (w .0) 4 (w .1) [] c d (sym (w .2) ∙ ap (next plan-kinds) e ∙ next-end d) .0 in
+    let told : some r ≡ none = sym (w .decodes) ∙ same-whole (w .kind) 4 (w .body) [] c d (sym (w .next-is) ∙ ap (next plan-kinds) e ∙ next-end d) .0 in
     let z : _≡_ {A = ℕ} 0 1 = cc in
     omega arith
 

@@ -18,12 +18,21 @@ use Rattle.model.specs.Faults.{fault-at, Fault, no-kind, strange-kind, s
 
 -- What stands where a record is due
 
-pub next-record : (r : Record) (rest : List ℕ)
-    → (kind : ℕ) × (body : List ℕ) × (next plan-kinds (bytes-of r ++ rest) ≡ whole kind body rest) × (decoded kind body ≡ some r)
+-- bytes that begin with a record: its kind and its body stand there
+pub record Begins (r : Record) (rest : List ℕ) : Type 0 where
+  pub kind : ℕ
+  pub body : List ℕ
+  pub next-is : next plan-kinds (bytes-of r ++ rest) ≡ whole kind body rest
+  pub decodes : decoded kind body ≡ some r
+
+pub next-record : (r : Record) (rest : List ℕ) → Begins r rest
 unfolding next bytes-of
-next-record (site s t) rest = (1, s ∷ t ∷ [], simp (le-leb 2 (suc (suc (length rest))) (omega arith)), refl)
-next-record (node n s l) rest = (2, n ∷ s ∷ l ∷ [], simp (le-leb 3 (suc (suc (suc (length rest)))) (omega arith)), refl)
-next-record (edge c d) rest = (3, c ∷ d ∷ [], simp (le-leb 2 (suc (suc (length rest))) (omega arith)), refl)
+next-record (site s t) rest =
+    record { kind = 1; body = s ∷ t ∷ []; next-is = simp (le-leb 2 (suc (suc (length rest))) (omega arith)); decodes = refl }
+next-record (node n s l) rest =
+    record { kind = 2; body = n ∷ s ∷ l ∷ []; next-is = simp (le-leb 3 (suc (suc (suc (length rest)))) (omega arith)); decodes = refl }
+next-record (edge c d) rest =
+    record { kind = 3; body = c ∷ d ∷ []; next-is = simp (le-leb 2 (suc (suc (length rest))) (omega arith)); decodes = refl }
 
 pub next-end : (rest : List ℕ) → next plan-kinds (4 ∷ rest) ≡ whole 4 [] rest
 unfolding next
@@ -53,7 +62,7 @@ module _ (levels : Levels) (ends : Ends) (rs : List Record) where
   case-fault (no-kind e q) = rw (e, q)
   case-fault (strange-kind kind rest e out q) = rw (e, q, next-strange kind rest out)
   case-fault (short-body kind size rest e given h q) = rw (e, q, next-short kind size rest given h)
-  case-fault (of-record r rest e q) = let w = next-record r rest in rw (e, w .2, w .3, q)
+  case-fault (of-record r rest e q) = let w = next-record r rest in rw (e, w .next-is, w .decodes, q)
   case-fault (of-plan rest e q) = rw (e, next-end rest, q)
 
   -- and bytes are always of some case
@@ -142,16 +151,16 @@ module _ (rs : List Record) where
 -- The numbers of the bytes behind the records rs
 module _ (rs : List Record) (tail : List ℕ) where
   -- 1, "the input ends where a kind byte or a body byte is due"
-  abbrev InputEnds : Type 0
-  InputEnds = (tail ≡ []) ⊎ ((kind : ℕ) × (size : ℕ) × (rest : List ℕ) × (tail ≡ kind ∷ rest) × (plan-kinds kind ≡ some size) × (length rest < size))
+  abbrev EndsEarly : Type 0
+  EndsEarly = (tail ≡ []) ⊎ ((kind : ℕ) × (size : ℕ) × (rest : List ℕ) × (tail ≡ kind ∷ rest) × (plan-kinds kind ≡ some size) × (length rest < size))
 
-  pub bytes-1 : (fault-at six end-fault rs tail ≡ 1) ↔ InputEnds
+  pub bytes-1 : (fault-at six end-fault rs tail ≡ 1) ↔ EndsEarly
   bytes-1 = (
     (λ e. go (fault-is six end-fault rs tail 1 .0 e)),
     (λ h. case-fault six end-fault rs (⊎-elim (λ e. no-kind e refl) (λ w. short-body (w .0) (w .1) (w .2) (w .3) (w .4) (w .5) refl) h)),
   )
     where
-      go : Fault six end-fault rs tail 1 → InputEnds
+      go : Fault six end-fault rs tail 1 → EndsEarly
       go (no-kind e q) = inl e
       go (strange-kind kind rest e out q) = absurd (omega arith)
       go (short-body kind size rest e given h q) = inr (kind, size, rest, e, given, h)

@@ -62,7 +62,7 @@ module _ (levels : Levels) (ends : Ends) where
   goes-on : (turns : ℕ) (rs : List Record) (at : ℕ) (r : Record) (rest : List ℕ) → record-fault levels rs r ≡ 0
       → read-on levels ends (suc turns) rs at (bytes-of r ++ rest) ≡ read-on levels ends turns (r ∷ rs) (at + length (bytes-of r)) rest
   unfolding read-on
-  goes-on turns rs at r rest h = let w = next-record r rest in rw (w .2, w .3, eq-eqb (record-fault levels rs r) 0 h)
+  goes-on turns rs at r rest h = let w = next-record r rest in rw (w .next-is, w .decodes, eq-eqb (record-fault levels rs r) 0 h)
 
   -- the end record of a sound plan
   pub accepts : (turns : ℕ) (rs : List Record) (at : ℕ) (rest : List ℕ) → ends rs ≡ 0

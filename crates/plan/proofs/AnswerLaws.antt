@@ -20,7 +20,7 @@ use Rattle.model.proofs.PlanValueLaws.{records-value}
 use Rattle.model.proofs.RefusalLaws.{refusal-named}
 use Rattle.record.specs.Whole.{WholeFault}
 use Rattle.record.proofs.WholeLaws.{whole-is}
-use Rattle.plan.specs.Answers.{Answers, refused-read}
+use Rattle.plan.specs.Answers.{Answers, refused-read, accepted-read}
 
 pub refused-answers : {r : PlanRead} {back : Plan} {reading : Reading} (why : PlanRefusal) (at : ℕ)
     → r ≡ refused-read why at back → back ≡ empty-plan → reading ≡ refused (refusal-number why) at → Answers r reading
@@ -30,9 +30,13 @@ refused-answers why at e none f =
       plan-is = ap (λ (x : PlanRead). x .plan) e ∙ none ∙ sym (ap reading-plan f);
     }
 
-pub accepted-answers : {plan : Plan} {reading : Reading} (rs : List Record) (used : ℕ)
-    → plan ≡ value rs → reading ≡ accepted rs used → Answers (record { answer = ReadAnswer.Accepted used; plan = plan }) reading
-accepted-answers rs used e f = record { answer-is = sym (ap reading-told f); plan-is = e ∙ sym (ap reading-plan f) }
+pub accepted-answers : {r : PlanRead} {plan : Plan} {reading : Reading} (rs : List Record) (used : ℕ)
+    → r ≡ accepted-read used plan → plan ≡ value rs → reading ≡ accepted rs used → Answers r reading
+accepted-answers rs used e is f =
+    record {
+      answer-is = ap (λ (x : PlanRead). toldRead (x .answer)) e ∙ sym (ap reading-told f);
+      plan-is = ap (λ (x : PlanRead). x .plan) e ∙ is ∙ sym (ap reading-plan f);
+    }
 
 module _ (bytes : List ℕ) where
   read-is : read bytes ≡ end-checked end-fault (scanned bytes)

@@ -29,15 +29,8 @@ use Rattle.record.proofs.NextRecord as next-type
 use Rattle.record.specs.Step.{of-record, last-of, next-in, from-next, value-fault}
 use Rattle.record.proofs.RecordFaults.{fault-same}
 use Rattle.record.specs.declared.NextRecord.{NextRecord}
+use Rattle.plan.specs.Answers.{why-unread}
 use Rattle.plan.proofs.StandsLaws.{as-record, Stands, stands}
-
--- What a match leaves of an enum
-
--- neither unknown nor whole: cut
-pub cut-only : (r : NextRecord) → OneOf (0 ∷ 1 ∷ []) (tagOf next-type.the-type r) → OneOf (1 ∷ 2 ∷ []) (tagOf next-type.the-type r) → r ≡ NextRecord.Cut
-cut-only (NextRecord.Whole a b) p q = ⊎-elim (λ (e : _≡_ {A = ℕ} 0 1). absurd (omega arith)) (λ (e : _≡_ {A = ℕ} 0 2). absurd (omega arith)) q
-cut-only NextRecord.Cut p q = refl
-cut-only NextRecord.Unknown p q = ⊎-elim (λ (e : _≡_ {A = ℕ} 2 0). absurd (omega arith)) (λ (e : _≡_ {A = ℕ} 2 1). absurd (omega arith)) p
 
 -- The way
 
@@ -84,7 +77,7 @@ module _ (bytes : List ℕ) (plan : Plan) (last : PlanRecord) (at : ℕ) (way : 
       })
 
   -- what cannot be read
-  pub unknown-stops : next-in bytes at ≡ NextRecord.Unknown → scanned bytes ≡ refused 2 at
+  unknown-stops : next-in bytes at ≡ NextRecord.Unknown → scanned bytes ≡ refused 2 at
   unfolding fault-at
   unknown-stops e = refuses 2 (λ z. omega arith) (go (next plan-kinds (drop at bytes)) e)
     where
@@ -94,7 +87,7 @@ module _ (bytes : List ℕ) (plan : Plan) (last : PlanRecord) (at : ℕ) (way : 
       go cut q = let z : _≡_ {A = ℕ} 0 1 = cc in absurd (omega arith)
       go (whole k b r) q = let z : _≡_ {A = ℕ} 0 1 = cc in absurd (omega arith)
 
-  pub cut-stops : next-in bytes at ≡ NextRecord.Cut → scanned bytes ≡ refused 1 at
+  cut-stops : next-in bytes at ≡ NextRecord.Cut → scanned bytes ≡ refused 1 at
   unfolding fault-at
   cut-stops e = refuses 1 (λ z. omega arith) (go (next plan-kinds (drop at bytes)) e)
     where
@@ -103,6 +96,14 @@ module _ (bytes : List ℕ) (plan : Plan) (last : PlanRecord) (at : ℕ) (way : 
       go unknown q = let z : _≡_ {A = ℕ} 0 1 = cc in absurd (omega arith)
       go cut q = refl
       go (whole k b r) q = let z : _≡_ {A = ℕ} 0 1 = cc in absurd (omega arith)
+
+  -- (a match leaves the tags of the two)
+  pub unread-stops : (found : NextRecord) → next-in bytes at ≡ found → OneOf (1 ∷ 2 ∷ []) (tagOf next-type.the-type found)
+      → scanned bytes ≡ refused (refusal-number (why-unread found)) at
+  unread-stops (NextRecord.Whole r behind) e k =
+      ⊎-elim (λ (z : _≡_ {A = ℕ} 0 1). absurd (omega arith)) (λ (z : _≡_ {A = ℕ} 0 2). absurd (omega arith)) k
+  unread-stops NextRecord.Cut e k = cut-stops e
+  unread-stops NextRecord.Unknown e k = unknown-stops e
 
   -- the end record
   pub end-stops : (behind : ℕ) → next-in bytes at ≡ NextRecord.Whole PlanRecord.End behind → scanned bytes ≡ accepted (way .records) behind
@@ -142,8 +143,8 @@ module _ (bytes : List ℕ) (plan : Plan) (last : PlanRecord) (at : ℕ) (way : 
         let k = next-record r (here .0) in
         let fault : fault-at six unchecked (way .records) (drop at bytes) ≡ record-fault six (way .records) r
         = ap (fault-at six unchecked (way .records)) (here .1)
-        ∙ ap (fault-next six unchecked (way .records)) (k .2)
-        ∙ ap (fault-decoded six unchecked (way .records)) (k .3) in
+        ∙ ap (fault-next six unchecked (way .records)) (k .next-is)
+        ∙ ap (fault-decoded six unchecked (way .records)) (k .decodes) in
         refuses n real (fault ∙ sym checked ∙ sym f)
 
     further : at < behind

@@ -2,7 +2,7 @@
 ghost use mathlib.Core.Path.{_≡_};
 ghost use Rattle.model.specs.Reading.{scanned as scanning, read as reading};
 ghost use Rattle.model.specs.PlanValue.{refusal-number};
-ghost use Rattle.plan.specs.Answers.{Answers, refused-read};
+ghost use Rattle.plan.specs.Answers.{Answers, refused-read, accepted-read, why-unread};
 use model::Plan;
 use model::PlanRead;
 use model::PlanRecord;
@@ -38,6 +38,27 @@ fn refused(why: PlanRefusal, at: usize, back: Plan) -> PlanRead
     }
 }
 
+// The bytes used, with the plan.
+fn accepted(used: usize, plan: Plan) -> PlanRead
+    ensures { λ r. ⌜ r ≡ accepted-read used plan ⌝ }
+{
+    PlanRead {
+        answer: ReadAnswer::Accepted(used),
+        plan,
+    }
+}
+
+// Why what stands at an offset is no record.
+fn unread(found: NextRecord) -> PlanRefusal
+    ensures { λ r. ⌜ r ≡ why-unread found ⌝ }
+{
+    match found {
+        NextRecord::Whole(_, _) => PlanRefusal::InputEnds,
+        NextRecord::Cut => PlanRefusal::InputEnds,
+        NextRecord::Unknown => PlanRefusal::UnknownKind,
+    }
+}
+
 // Reads records up to the end record, before the checks on the whole plan. Each is stored here, in place: a plan that went to another function and
 // back would be copied for each record.
 pub fn scan(bytes: &[u8]) -> PlanRead
@@ -49,11 +70,8 @@ pub fn scan(bytes: &[u8]) -> PlanRead
     let mut at = 0;
     loop {
         let found = record::next_record(bytes, at);
-        if let NextRecord::Unknown = found {
-            return refused(PlanRefusal::UnknownKind, at, none);
-        }
         let NextRecord::Whole(next, behind) = found else {
-            return refused(PlanRefusal::InputEnds, at, none);
+            return refused(unread(found), at, none);
         };
         let checked = record::check(&plan.threads, &plan.places, plan.edges, last, next);
         if let Checked::Refused(why) = checked {
@@ -75,12 +93,7 @@ pub fn scan(bytes: &[u8]) -> PlanRead
                 plan.callees[i] = callee.0;
                 plan.edges = i + 1;
             }
-            PlanRecord::End => {
-                return PlanRead {
-                    answer: ReadAnswer::Accepted(behind),
-                    plan,
-                };
-            }
+            PlanRecord::End => return accepted(behind, plan),
         }
         last = next;
         at = behind;

@@ -16,7 +16,8 @@ use Rattle.model.specs.declared.Plan.{Plan}
 use Rattle.model.specs.declared.PlanRecord.{PlanRecord}
 use Rattle.model.proofs.PlanValueLaws.{edges-value, threads-value, present-value}
 use Rattle.model.proofs.RefusalLaws.{refusal-named, refusal-injective}
-use Rattle.record.specs.Step.{of-record, last-of, follows-last, listed-node, kind-fault, value-fault, stored-in, toldCheck}
+use Rattle.record.specs.Step.{body-told, of-record, last-of, follows-last, listed-node, kind-fault, value-fault, stored-in, toldCheck}
+use Rattle.record.specs.declared.BodyLength.{BodyLength}
 use Rattle.record.specs.declared.Checked.{Checked}
 
 follows-same : (rs : List Record) (r : Record) → follows-last (last-of rs) (of-record r) ≡ follows rs r
@@ -87,3 +88,10 @@ check-injective Checked.Passed Checked.Passed e = refl
 check-injective Checked.Passed (Checked.Refused w) e = absurd (refusal-named w .1 (sym e))
 check-injective (Checked.Refused w) Checked.Passed e = absurd (refusal-named w .1 e)
 check-injective (Checked.Refused w) (Checked.Refused x) e = ap Checked.Refused (refusal-injective w x e)
+
+-- and so does the length of a body
+pub body-injective : (a b : BodyLength) → body-told a ≡ body-told b → a ≡ b
+body-injective (BodyLength.Bytes n) (BodyLength.Bytes m) e = let same : n ≡ m = cc in ap BodyLength.Bytes same
+body-injective (BodyLength.Bytes n) BodyLength.Unknown e = let z : _≡_ {A = ℕ} 0 1 = cc in absurd (omega arith)
+body-injective BodyLength.Unknown (BodyLength.Bytes m) e = let z : _≡_ {A = ℕ} 0 1 = cc in absurd (omega arith)
+body-injective BodyLength.Unknown BodyLength.Unknown e = refl
