@@ -1,55 +1,60 @@
 -- One record more: behind a fault it changes nothing, and else its check over the plan so far is the records' own, so that the first fault is its
 -- own and the stored plan holds it. Assumes nothing.
-use Prim.Native.Nat.{ℕ, _+_, _<_, _≤_, min}
+use Prim.Native.Nat.{ℕ, _+_, _<_, min}
 use native.Mathlib.Numerals.{add-one}
 use mathlib.Core.Path.{_≡_, refl, sym, ap, ap₂, subst, _∙_}
 use mathlib.Core.List.{List, [], _∷_}
 use lib.ListN.{length, getD}
-use borrow.Author.Tests.{lt-ltb, le-ltb, eq-eqb, ne-eqb}
+use borrow.Author.Tests.{eq-eqb, ne-eqb}
 use Rattle.ids.specs.Limits.{sites, nodes, most-edges}
 use Rattle.lists.proofs.CountLaws.{getD-inside}
-use Rattle.model.specs.Plan.{Record, site, node, edge}
+use Rattle.model.specs.Plan.{Record, site, node, edge, six}
 use Rattle.model.specs.PlanValue.{nowhere, empty-plan, value, records-of}
 use Rattle.model.specs.PlanFault.{records-fault}
 use Rattle.model.specs.declared.Plan.{Plan}
 use Rattle.model.specs.declared.PlanRecord.{PlanRecord}
 use Rattle.model.specs.declared.PlanRefusal.{PlanRefusal}
-use Rattle.model.proofs.PlanValueLaws.{refusal-named}
+use Rattle.model.proofs.RefusalLaws.{refusal-named}
+use Rattle.model.proofs.RecordLaws.{passes-ok}
 use Rattle.model.proofs.PlanFaultLaws.{fault-kept, fault-new, records-fault-none}
-use Rattle.record.specs.Step.{of-record, last-of, toldCheck, fault-in, stored-in}
+use Rattle.record.specs.Step.{of-record, last-of, toldCheck, value-fault, stored-in}
 use Rattle.record.specs.declared.Checked.{Checked}
-use Rattle.record.proofs.RecordFaults.{fault-same, stored-same}
+use Rattle.record.proofs.RecordFaults.{fault-same, Storable, storable, stored-same}
 use Rattle.audit.specs.Taken.{Taken, Takes, sites-to, nodes-to, edges-to}
 use Rattle.audit.specs.declared.Audit.{Audit}
 
+-- the fault of a record over a plan and the record before
+abbrev pub over : Plan → PlanRecord → PlanRecord → ℕ
+over p last next = value-fault (p .threads) (p .places) (p .edges) last next
+
 -- a refusal is a fault
-pub real : {checked : Checked} {why : PlanRefusal} → checked ≡ Checked.Refused why → toldCheck checked ≡ 0 → ⊥
-real {checked} {why} e z = refusal-named why .1 (sym (ap toldCheck e) ∙ z)
+pub refusal-counts : {checked : Checked} {why : PlanRefusal} → checked ≡ Checked.Refused why → toldCheck checked ≡ 0 → ⊥
+refusal-counts {checked} {why} e z = refusal-named why .1 (sym (ap toldCheck e) ∙ z)
 
 -- no records yet
-pub start : (plan : Plan) → plan ≡ empty-plan → Taken [] (record { checked = Checked.Passed; plan = plan; last = PlanRecord.End })
+pub none-taken : (plan : Plan) → plan ≡ empty-plan → Taken [] (record { checked = Checked.Passed; plan = plan; last = PlanRecord.End })
 unfolding value records-fault
-start plan e = record { fault-is = refl; held = λ z. (e, refl) }
+none-taken plan e = record { fault-is = refl; held = λ z. (e, refl) }
 
 module _ (old : Audit) (next : PlanRecord) where
   -- behind a fault
-  pub kept : (toldCheck (old .checked) ≡ 0 → ⊥) → Takes old next old
-  kept bad-yet rs r so e =
-      let bad : records-fault rs ≡ 0 → ⊥ = λ z. bad-yet (so .fault-is ∙ z) in
-      let same = fault-kept rs r bad in
+  pub fault-stays : (toldCheck (old .checked) ≡ 0 → ⊥) → Takes old next old
+  fault-stays bad-yet rs r so e =
+      let bad : records-fault six rs ≡ 0 → ⊥ = λ z. bad-yet (so .fault-is ∙ z) in
+      let same = fault-kept six rs r bad in
       record { fault-is = so .fault-is ∙ sym same; held = λ z. absurd (bad (sym same ∙ z)) }
 
   -- behind none, with what the record's check answers
-  module _ (none : toldCheck (old .checked) ≡ 0) (checked : Checked) (told : toldCheck checked ≡ fault-in (old .plan) (old .last) next) where
-    its-fault : (rs : List Record) (r : Record) → Taken rs old → next ≡ of-record r → toldCheck checked ≡ records-fault (r ∷ rs)
+  module _ (none : toldCheck (old .checked) ≡ 0) (checked : Checked) (told : toldCheck checked ≡ over (old .plan) (old .last) next) where
+    its-fault : (rs : List Record) (r : Record) → Taken rs old → next ≡ of-record r → toldCheck checked ≡ records-fault six (r ∷ rs)
     its-fault rs r so e =
-        let no-fault : records-fault rs ≡ 0 = sym (so .fault-is) ∙ none in
+        let no-fault : records-fault six rs ≡ 0 = sym (so .fault-is) ∙ none in
         let w = so .held no-fault in
         told
-        ∙ ap₂ (λ (p : Plan) (l : PlanRecord). fault-in p l next) (w .0) (w .1)
-        ∙ ap (fault-in (value rs) (last-of rs)) e
-        ∙ fault-same rs (records-fault-none rs .0 no-fault) r
-        ∙ sym (fault-new rs r no-fault)
+        ∙ ap₂ (λ (p : Plan) (l : PlanRecord). over p l next) (w .0) (w .1)
+        ∙ ap (over (value rs) (last-of rs)) e
+        ∙ fault-same rs (passes-ok six rs (records-fault-none six rs .0 no-fault)) r
+        ∙ sym (fault-new six rs r no-fault)
 
     pub found : (toldCheck checked ≡ 0 → ⊥) → Takes old next (record { checked = checked; plan = old .plan; last = old .last })
     found bad rs r so e =
@@ -59,9 +64,17 @@ module _ (old : Audit) (next : PlanRecord) where
     unfolding value
     held-now plan new rs r so e =
         let w = so .held (sym (so .fault-is) ∙ none) in
+        let its = its-fault rs r so e in
+        let same : stored-in (old .plan) next ≡ stored-in (value rs) (of-record r) = ap₂ stored-in (w .0) e in
         record {
-          fault-is = its-fault rs r so e;
-          held = λ z. (new ∙ ap₂ stored-in (w .0) e ∙ stored-same (value rs) r, e);
+          fault-is = its;
+          held = λ z.
+              let over-value : over (old .plan) (old .last) next ≡ over (value rs) (last-of rs) (of-record r)
+              = ap (over (old .plan) (old .last)) e ∙ ap₂ (λ (p : Plan) (l : PlanRecord). over p l (of-record r)) (w .0) (w .1) in
+              let fits : Storable (value rs .edges) (of-record r)
+              = storable (value rs .threads) (value rs .places) (value rs .edges) (last-of rs) (of-record r)
+              (sym over-value ∙ sym told ∙ its ∙ z) in
+              (new ∙ same ∙ stored-same (value rs) r fits, e);
         }
 
 -- The records one after the other, in what code makes of a turn: the record is taken up, or there is none
@@ -108,17 +121,17 @@ module _ (p : Plan) where
     at = getD-inside (p .places) n nowhere 0 inside
 
     module _ {old new : Audit} (so : Taken (nodes-to p n) old) where
-      pub node-more : (took : Audit) → getD (p .places) n 0 < sites
+      pub node-more : (took : Audit) → (getD (p .places) n 0 ≡ nowhere → ⊥)
           → Takes old (PlanRecord.Node (record { 0 = n }) (record { 0 = getD (p .places) n 0 }) (record { 0 = getD (p .levels) n 0 })) took
           → new ≡ took → Taken (nodes-to p (n + 1)) new
       unfolding nodes-to
       node-more took listed how same =
           let s = getD (p .places) n 0 in
-          more so (node n s (getD (p .levels) n 0)) (nodes-to p (n + 1)) (rw (add-one, at, lt-ltb s sites listed)) took how same
+          more so (node n s (getD (p .levels) n 0)) (nodes-to p (n + 1)) (rw (add-one, at, ne-eqb s nowhere listed)) took how same
 
-      pub node-none : sites ≤ getD (p .places) n 0 → new ≡ old → Taken (nodes-to p (n + 1)) new
+      pub node-none : getD (p .places) n 0 ≡ nowhere → new ≡ old → Taken (nodes-to p (n + 1)) new
       unfolding nodes-to
-      node-none none same = no-more so (nodes-to p (n + 1)) (rw (add-one, at, le-ltb (getD (p .places) n 0) sites none)) same
+      node-none none same = no-more so (nodes-to p (n + 1)) (rw (add-one, at, eq-eqb (getD (p .places) n 0) nowhere none)) same
 
   pub edge-more : (i : ℕ) (old took : Audit) → Taken (edges-to p i) old
       → Takes old (PlanRecord.Edge (record { 0 = getD (p .callers) i 0 }) (record { 0 = getD (p .callees) i 0 })) took

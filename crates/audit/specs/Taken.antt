@@ -3,7 +3,7 @@ use Prim.Native.Nat.{ℕ}
 use mathlib.Core.Path.{_≡_}
 use mathlib.Core.List.{List, _∷_}
 use Rattle.ids.specs.Limits.{sites, nodes}
-use Rattle.model.specs.Plan.{Record}
+use Rattle.model.specs.Plan.{Record, six}
 use Rattle.model.specs.PlanValue.{value, site-records, node-records, edge-records}
 use Rattle.model.specs.PlanFault.{records-fault}
 use Rattle.model.specs.declared.Plan.{Plan}
@@ -13,8 +13,8 @@ use Rattle.audit.specs.declared.Audit.{Audit}
 
 -- the records so far, the latest first: their first fault, and where they have none the value that holds them and the last of them
 pub record Taken (rs : List Record) (audit : Audit) : Type 0 where
-  pub fault-is : toldCheck (audit .checked) ≡ records-fault rs
-  pub held : records-fault rs ≡ 0 → (audit .plan ≡ value rs) × (audit .last ≡ last-of rs)
+  pub fault-is : toldCheck (audit .checked) ≡ records-fault six rs
+  pub held : records-fault six rs ≡ 0 → (audit .plan ≡ value rs) × (audit .last ≡ last-of rs)
 
 -- one record more, whatever the records before
 abbrev pub Takes : Audit → PlanRecord → Audit → Type 0

@@ -1,12 +1,11 @@
 // The checks on a plan's value, which may be anybody's: its records are taken up one after the other in the file's order, each by the step that
-// reads a file's record, and then the whole plan is checked. A net is made from a plan that passes.
+// reads a file's record, and then the whole plan is checked. What passes is handed on in its one form, from which a net is made.
 ghost use mathlib.Core.Path.{_≡_};
 ghost use Prim.Native.Nat.{_≤_};
 ghost use Rattle.ids.specs.Limits.{sites, nodes, most-edges};
 ghost use Rattle.model.specs.PlanValue.{records-of};
-ghost use Rattle.model.specs.PlanFault.{plan-fault};
-ghost use Rattle.record.specs.Step.{toldCheck};
 ghost use Rattle.audit.specs.Taken.{Taken, Takes, sites-to, nodes-to};
+ghost use Rattle.audit.specs.Audits.{Audits, refused-audit};
 use ids::Level;
 use ids::Node;
 use ids::Site;
@@ -14,6 +13,12 @@ use model::Plan;
 use model::PlanRecord;
 use model::PlanRefusal;
 use record::Checked;
+
+// The first fault of a plan, and the plan as it may be kept: in its one form, or the empty plan beside a fault.
+pub struct Audited {
+    pub checked: Checked,
+    pub plan: Plan,
+}
 
 // Some records that were taken up: their first fault, and as long as there is none the plan of these records and the last one.
 struct Audit {
@@ -32,7 +37,7 @@ fn take(audit: Audit, next: PlanRecord) -> Audit
     }
     let plan = audit.plan;
     let last = audit.last;
-    let checked = record::check(plan, last, next);
+    let checked = record::check(&plan.threads, &plan.places, plan.edges, last, next);
     if let Checked::Refused(_) = checked {
         return Audit {
             checked,
@@ -72,7 +77,7 @@ fn take_nodes(plan: Plan) -> Audit
     let mut audit = take_sites(plan);
     for n in 0..Node::COUNT {
         let place = plan.places[n];
-        if (place as usize) < Site::COUNT {
+        if place != Plan::NOWHERE {
             let level = plan.levels[n];
             audit = take(
                 audit,
@@ -97,22 +102,36 @@ fn take_records(plan: Plan) -> Audit
     audit
 }
 
-// The first fault of a plan, of those that the checks 3 to 9 name.
-pub fn check(plan: Plan) -> Checked
-    ensures { λ r. ⌜ toldCheck r ≡ plan-fault plan ⌝ }
+// A refusal, with the empty plan.
+fn refused(why: PlanRefusal) -> Audited
+    ensures { λ r. ⌜ r ≡ refused-audit why ⌝ }
+{
+    Audited {
+        checked: Checked::Refused(why),
+        plan: record::empty(),
+    }
+}
+
+// The first fault of a plan, of those that the checks 3 to 9 name. What stands where no record is, levels of unlisted nodes and pairs behind the
+// count, is no fault, and it does not travel on.
+pub fn check(plan: Plan) -> Audited
+    ensures { λ r. ⌜ Audits plan r ⌝ }
 {
     if plan.edges > Node::EDGES {
-        return Checked::Refused(PlanRefusal::TooManyEdges);
+        return refused(PlanRefusal::TooManyEdges);
     }
-    let checked = take_records(plan).checked;
-    if let Checked::Refused(_) = checked {
-        return checked;
+    let audit = take_records(plan);
+    let checked = audit.checked;
+    if let Checked::Refused(why) = checked {
+        return refused(why);
     }
-    if cycles::loops(plan) {
-        return Checked::Refused(PlanRefusal::Loop);
+    let held = audit.plan;
+    let ended = record::check_end(held);
+    if let Checked::Refused(why) = ended {
+        return refused(why);
     }
-    if cycles::self_depends(plan) {
-        return Checked::Refused(PlanRefusal::SelfDependence);
+    Audited {
+        checked: ended,
+        plan: held,
     }
-    Checked::Passed
 }

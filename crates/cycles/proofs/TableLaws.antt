@@ -7,19 +7,18 @@ use mathlib.Core.Path.{_≡_, refl, sym, ap, ap₂, _∙_}
 use mathlib.Core.Bool.{Bool, true, false, _&&_, _||_, cond}
 use mathlib.Core.List.{List, []}
 use mathlib.Core.Option.{none, some}
-use lib.Dec.{eqb, leb, ltb}
+use lib.Dec.{eqb, leb}
 use lib.ListN.{length, getD, set, replicate, length-set}
 use lib.Seq.{getD-set-same, getD-set-other}
 use mir.Val.{boolByte}
 use borrow.Author.Count.{below-more}
-use borrow.Author.Tests.{eqb-true, eqb-false, eq-eqb, ne-eqb, lt-ltb, le-ltb}
-use mathlib.Core.Logic.{⊎-elim}
-use Rattle.lists.proofs.CountLaws.{lt-or-ge, decided, never-both, and-left, and-right, and-both, getD-inside}
-use Rattle.ids.specs.Limits.{sites, nodes, most-edges}
+use borrow.Author.Tests.{eqb-true, eqb-false, eq-eqb, ne-eqb}
+use Rattle.lists.proofs.CountLaws.{never-both, and-left, and-right, and-both, getD-inside}
+use Rattle.ids.specs.Limits.{nodes, most-edges}
 use Rattle.model.specs.Plan.{Place, calls, site-steps, descends}
-use Rattle.model.specs.PlanValue.{nowhere, edge-records, records-of, held}
+use Rattle.model.specs.PlanValue.{nowhere, somewhere, edge-records, records-of, held}
 use Rattle.model.specs.declared.Plan.{Plan}
-use Rattle.model.proofs.PlanValueLaws.{Sized, calls-of, place-of}
+use Rattle.model.proofs.HeldLaws.{Sized, calls-of, place-of}
 use Rattle.graph.specs.Tables.{lit, on}
 use Rattle.graph.specs.Steps.{Is}
 use Rattle.graph.proofs.StepLaws.{on-lit, lit-ap, byte-lit}
@@ -74,6 +73,12 @@ call-more cells next cs ds i so-far turn n m hn hm =
     rw (add-one i)
     (turn n m hn hm ∙ ap (λ (t : Bool). (eqb (getD cs i 0) n && eqb (getD ds i 0) m) || t) (so-far n m hn hm))
 
+-- the loop's invariant: the first i edges are marked
+pub record Marked (p : Plan) (cells : List ℕ) (i : ℕ) : Type 0 where
+  pub done : Is cells (calls (edge-records (p .callers) (p .callees) i []))
+  pub within-count : i ≤ min (p .edges) most-edges
+  pub table : length cells ≡ nodes * nodes
+
 pub call-all : (p : Plan) (cells : List ℕ) (i : ℕ) → i ≡ min (p .edges) most-edges → Is cells (calls (edge-records (p .callers) (p .callees) i []))
     → Is cells (calls (records-of p))
 call-all p cells i e so n m hn hm =
@@ -90,21 +95,18 @@ module _ (p : Plan) (sized : Sized p) (n m : ℕ) (hn : n < nodes) where
   its-site = getD-inside (p .places) n 0 nowhere (omega (arith, sized .places))
 
   -- from a node without a record there is none
-  step-nowhere : sites ≤ getD (p .places) n 0 → site-steps (records-of p) n m ≡ false
+  step-nowhere : somewhere (getD (p .places) n 0) ≡ false → site-steps (records-of p) n m ≡ false
   unfolding held
-  step-nowhere h = steps-held ∙ rw (le-ltb (getD (p .places) n nowhere) sites (omega (arith, its-site)))
+  step-nowhere h = steps-held ∙ rw (sym (ap somewhere its-site) ∙ h)
 
-  module _ (hm : m < nodes) (low : getD (p .places) n 0 < sites) where
+  module _ (hm : m < nodes) (listed : somewhere (getD (p .places) n 0) ≡ true) where
     its-other : getD (p .places) m 0 ≡ getD (p .places) m nowhere
     its-other = getD-inside (p .places) m 0 nowhere (omega (arith, sized .places))
 
     -- nor to a node elsewhere
     step-elsewhere : (getD (p .places) m 0 ≡ getD (p .places) n 0 → ⊥) → site-steps (records-of p) n m ≡ false
     unfolding held
-    step-elsewhere apart =
-        steps-held
-        ∙ rw (lt-ltb (getD (p .places) n nowhere) sites (omega (arith, its-site)))
-        (go (ltb (getD (p .places) m nowhere) sites))
+    step-elsewhere apart = steps-held ∙ rw (sym (ap somewhere its-site) ∙ listed) (go (somewhere (getD (p .places) m nowhere)))
       where
         one : Place
         one = record { at = getD (p .places) n nowhere; level = getD (p .levels) n 0 }
@@ -122,28 +124,27 @@ module _ (p : Plan) (sized : Sized p) (n m : ℕ) (hn : n < nodes) where
     step-level same =
         steps-held
         ∙ rw (
-          lt-ltb (getD (p .places) n nowhere) sites (omega (arith, its-site)),
-          lt-ltb (getD (p .places) m nowhere) sites (omega (arith, its-other)),
+          sym (ap somewhere its-site) ∙ listed,
+          sym (ap somewhere its-other) ∙ ap somewhere same ∙ listed,
           eq-eqb (getD (p .places) n nowhere) (getD (p .places) m nowhere) (sym its-site ∙ sym same ∙ its-other),
         )
 
 -- the steps over the two arrays are those of the plan's records
 pub steps-same : (p : Plan) → Sized p → (n m : ℕ) → n < nodes → m < nodes → steps-in (p .places) (p .levels) n m ≡ site-steps (records-of p) n m
 unfolding steps-in
-steps-same p sized n m hn hm =
-    ⊎-elim
-    (λ (low : getD (p .places) n 0 < sites).
-    ⊎-elim
-    (λ (e : eqb (getD (p .places) m 0) (getD (p .places) n 0) ≡ true).
-    rw (lt-ltb (getD (p .places) n 0) sites low, e)
-    (sym (step-level p sized n m hn hm low (eqb-true (getD (p .places) m 0) (getD (p .places) n 0) e))))
-    (λ (e : eqb (getD (p .places) m 0) (getD (p .places) n 0) ≡ false).
-    rw (lt-ltb (getD (p .places) n 0) sites low, e)
-    (sym (step-elsewhere p sized n m hn hm low (eqb-false (getD (p .places) m 0) (getD (p .places) n 0) e))))
-    (decided (eqb (getD (p .places) m 0) (getD (p .places) n 0))))
-    (λ (high : sites ≤ getD (p .places) n 0).
-    rw (le-ltb (getD (p .places) n 0) sites high) (sym (step-nowhere p sized n m hn high)))
-    (lt-or-ge (getD (p .places) n 0) sites)
+steps-same p sized n m hn hm = go (somewhere here) (eqb there here) refl refl
+  where
+    here : ℕ
+    here = getD (p .places) n 0
+
+    there : ℕ
+    there = getD (p .places) m 0
+
+    go : (b e : Bool) → somewhere here ≡ b → eqb there here ≡ e
+        → cond b (cond e (leb (getD (p .levels) m 0) (getD (p .levels) n 0)) false) false ≡ site-steps (records-of p) n m
+    go true true listed e = sym (step-level p sized n m hn hm listed (eqb-true there here e))
+    go true false listed e = sym (step-elsewhere p sized n m hn hm listed (eqb-false there here e))
+    go false e unlisted f = sym (step-nowhere p sized n m hn unlisted)
 
 -- A row
 
@@ -171,10 +172,24 @@ rowed-more old new n row m long hn hm b is so-far =
     kept : (i k : ℕ) → k < nodes → (nodes * i + k ≡ x → ⊥) → on next i k ≡ on new i k
     kept i k hk apart = on-lit next i k hk ∙ lit-ap (getD-set-other new x (nodes * i + k) (boolByte b) 0 apart) ∙ sym (on-lit new i k hk)
 
--- the rows of the nodes below n
-pub rows-more : (cells next : List ℕ) (steps : ℕ → ℕ → Bool) (n : ℕ) → ((i : ℕ) → i < n → (m : ℕ) → m < nodes → on cells i m ≡ steps i m)
-    → Rowed cells next n (steps n) nodes → (i : ℕ) → i < n + 1 → (m : ℕ) → m < nodes → on next i m ≡ steps i m
-rows-more cells next steps n so-far row =
-    below-more (λ i. (m : ℕ) → m < nodes → on next i m ≡ steps i m) n
-    (λ i h m hm. row .other i m (λ e. omega arith) hm ∙ so-far i h m hm)
-    (λ m hm. row .done m hm)
+-- the loop's invariant: the rows of the nodes below n are written
+pub record Rows (places levels cells : List ℕ) (n : ℕ) : Type 0 where
+  pub done : (i : ℕ) → i < n → (m : ℕ) → m < nodes → on cells i m ≡ steps-in places levels i m
+  pub up-to : n ≤ nodes
+  pub table : length cells ≡ nodes * nodes
+  pub placed : length places ≡ nodes
+  pub levelled : length levels ≡ nodes
+
+pub rows-more : {places levels cells next : List ℕ} {n : ℕ} → Rows places levels cells n → n < nodes
+    → Rowed cells next n (steps-in places levels n) nodes → Rows places levels next (n + 1)
+rows-more {places} {levels} {cells} {next} {n} so-far inside row =
+    record {
+      done =
+          below-more (λ i. (m : ℕ) → m < nodes → on next i m ≡ steps-in places levels i m) n
+          (λ i h m hm. row .other i m (λ e. omega arith) hm ∙ so-far .done i h m hm)
+          (λ m hm. row .done m hm);
+      up-to = omega arith;
+      table = row .long ∙ so-far .table;
+      placed = so-far .placed;
+      levelled = so-far .levelled;
+    }

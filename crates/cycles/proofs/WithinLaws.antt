@@ -3,23 +3,23 @@
 use Prim.Native.Nat.{ℕ, _*_, _<_, _≤_}
 use native.Mathlib.Omega.{arith}
 use mathlib.Core.Path.{_≡_, refl, sym, ap, _∙_, subst}
-use mathlib.Core.Logic.{_↔_, ⊎-elim, Iff·trans}
+use mathlib.Core.Logic.{_↔_, ⊎-elim, Iff·trans, Iff·symm}
 use mathlib.Core.Bool.{Bool, true, _&&_}
 use mathlib.Core.List.{List}
 use mathlib.Core.Option.{Option, none, some}
 use lib.Dec.{T, ltb, ltb→lt, lt→ltb}
 use lib.ListN.{length, replicate}
 use mir.Facts.{and-yes, yes-and}
-use Rattle.lists.proofs.CountLaws.{lt-or-ge, same-verdict}
+use Rattle.lists.proofs.CountLaws.{lt-or-ge}
 use Rattle.ids.specs.Limits.{nodes}
 use Rattle.model.specs.Graph.{Depends}
-use Rattle.model.specs.Plan.{Record, Place, place, calls, site-steps, no-steps, descends, six, passes, loops, self-depends}
+use Rattle.model.specs.Plan.{Record, Place, place, calls, site-steps, no-steps, descends, loops, self-depends}
+use Rattle.model.specs.Records.{RecordsOk}
 use Rattle.model.specs.PlanValue.{records-of}
 use Rattle.model.specs.declared.Plan.{Plan}
 use Rattle.model.proofs.GraphLaws.{depends-more}
-use Rattle.model.proofs.RecordLaws.{passes-ok}
 use Rattle.model.proofs.PlanLaws.{calls-listed, loops-is, self-depends-is}
-use Rattle.model.proofs.PlanValueLaws.{Sized, held-out, place-of}
+use Rattle.model.proofs.HeldLaws.{Sized, held-out, place-of}
 use Rattle.graph.specs.Tables.{on, Tells}
 use Rattle.graph.specs.Steps.{Is}
 use Rattle.graph.proofs.TellLaws.{on-inside, on-row, none-on}
@@ -117,11 +117,10 @@ module _ (calling : List ℕ) (long : length calling ≡ nodes * nodes) where
     dependence-tables cells so =
         tells-same cells (on calling) (on steps) (within-nodes (calls (records-of p))) (site-steps (records-of p)) table-depends so
 
--- A plan that passes its checks: all its call edges are between nodes
-module _ (rs : List Record) (p : passes six rs ≡ true) where
+-- A plan whose records are right: all its call edges are between nodes
+module _ (rs : List Record) (ok : RecordsOk rs) where
   calls-low : (n m : ℕ) → T (calls rs n m) → (n < nodes) × (m < nodes)
   calls-low n m h =
-      let ok = passes-ok rs p in
       let w = ok .edge-nodes n m (calls-listed rs n m h) in
       (ok .node-range n (w .0 .0) (w .0 .1) (w .0 .2), ok .node-range m (w .1 .0) (w .1 .1) (w .1 .2))
 
@@ -129,13 +128,12 @@ module _ (rs : List Record) (p : passes six rs ≡ true) where
   pub depends-whole : (steps : ℕ → ℕ → Bool) (n m : ℕ) → Depends (within-nodes (calls rs)) steps n m ↔ Depends (calls rs) steps n m
   depends-whole steps = depends-same (within-all (calls rs) calls-low) (λ n m. ((λ h. h), (λ h. h)))
 
-  -- and the three answers are checks 7 and 8 and the plan's dependences
-  pub loops-told : (b : Bool) → (b ≡ true) ↔ ((n : ℕ) × Depends (within-nodes (calls rs)) no-steps n n) → b ≡ loops rs
-  loops-told b told = same-verdict b (loops rs) (Iff·trans told (circle-same (depends-whole no-steps))) (loops-is rs p)
+  -- and the restricted loops and self-dependences are those of checks 7 and 8
+  pub loops-within : (loops rs ≡ true) ↔ ((n : ℕ) × Depends (within-nodes (calls rs)) no-steps n n)
+  loops-within = Iff·trans (loops-is rs ok) (Iff·symm (circle-same (depends-whole no-steps)))
 
-  pub self-depends-told : (b : Bool) → (b ≡ true) ↔ ((n : ℕ) × Depends (within-nodes (calls rs)) (site-steps rs) n n) → b ≡ self-depends rs
-  self-depends-told b told =
-      same-verdict b (self-depends rs) (Iff·trans told (circle-same (depends-whole (site-steps rs)))) (self-depends-is rs p)
+  pub self-depends-within : (self-depends rs ≡ true) ↔ ((n : ℕ) × Depends (within-nodes (calls rs)) (site-steps rs) n n)
+  self-depends-within = Iff·trans (self-depends-is rs ok) (Iff·symm (circle-same (depends-whole (site-steps rs))))
 
   pub dependence-told : (cells : List ℕ) → Tells cells (Depends (within-nodes (calls rs)) (site-steps rs)) → Tells cells (Depends (calls rs) (site-steps rs))
   dependence-told cells so = tells-same cells (within-nodes (calls rs)) (site-steps rs) (calls rs) (site-steps rs) (depends-whole (site-steps rs)) so

@@ -2,12 +2,11 @@
 // its edges those between nodes 0 to 63 count.
 use graph::Table;
 use ids::Node;
-use ids::Site;
 use model::Plan;
 ghost use mathlib.Core.Path.{_≡_};
 ghost use mathlib.Core.Bool.{true, _&&_, _||_};
 ghost use mathlib.Core.Logic.{_↔_};
-ghost use Prim.Native.Nat.{ℕ, _*_, _<_};
+ghost use Prim.Native.Nat.{ℕ, _*_};
 ghost use lib.Dec.{eqb};
 ghost use lib.ListN.{length};
 ghost use Rattle.ids.specs.Limits.{nodes};
@@ -16,7 +15,7 @@ ghost use Rattle.model.specs.Plan.{calls, site-steps, no-steps};
 ghost use Rattle.model.specs.PlanValue.{records-of};
 ghost use Rattle.graph.specs.Tables.{on, Tells};
 ghost use Rattle.graph.specs.Steps.{Is};
-ghost use Rattle.cycles.specs.Within.{within-nodes, steps-in, Rowed};
+ghost use Rattle.cycles.specs.Within.{within-nodes, steps-in, StepAsked, RowAsked, Rowed};
 
 // Adds the pair of two numbers, where both are nodes.
 fn mark(cells: &mut [u8], from: u8, to: u8)
@@ -52,11 +51,11 @@ fn call_table(plan: Plan) -> Table
 
 // Whether a path may step from n to m: they stand at one site, and m's level is no higher.
 fn steps_down<'a>(places: &'a [u8], levels: &'a [u8], n: usize, m: usize) -> bool
-    requires { ⌜ (length (now places) ≡ nodes) × (length (now levels) ≡ nodes) × (n < nodes) × (m < nodes) ⌝ }
+    requires { ⌜ StepAsked (now places) (now levels) n m ⌝ }
     ensures { λ r. ⌜ r ≡ steps-in (now (places .entry)) (now (levels .entry)) n m ⌝ }
 {
     let at = places[n];
-    if Site::COUNT <= at as usize {
+    if at == Plan::NOWHERE {
         return false;
     }
     if places[m] != at {
@@ -67,7 +66,7 @@ fn steps_down<'a>(places: &'a [u8], levels: &'a [u8], n: usize, m: usize) -> boo
 
 // Writes the row of n: the nodes to which a path may step from it.
 fn step_row<'a>(cells: &mut [u8], places: &'a [u8], levels: &'a [u8], n: usize)
-    requires { ⌜ (length (now cells) ≡ nodes * nodes) × (length (now places) ≡ nodes) × (length (now levels) ≡ nodes) × (n < nodes) ⌝ }
+    requires { ⌜ RowAsked (now cells) (now places) (now levels) n ⌝ }
     ensures { λ _. ⌜ Rowed (now (cells .entry)) (now (cells .exit)) n (steps-in (now (places .entry)) (now (levels .entry)) n) nodes ⌝ }
 {
     for m in 0..Node::COUNT {

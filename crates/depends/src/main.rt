@@ -7,7 +7,8 @@ use model::Plan;
 use model::PlanRead;
 use model::PlanRefusal;
 use model::ReadAnswer;
-ghost use Prim.Native.Nat.{_<_};
+ghost use Prim.Native.Nat.{_<_, _≤_};
+ghost use Rattle.ids.specs.Limits.{sites as most-sites, nodes as most-nodes};
 
 // The records of the largest plan, and behind them the longest record: so that whatever stands there is seen whole.
 const MOST_BYTES: usize = 3 * Site::COUNT + 4 * Node::COUNT + 3 * Node::EDGES + 4;
@@ -49,7 +50,7 @@ fn put_item(text: &mut [u8], at: usize, number: usize) -> usize {
 }
 
 fn sites(plan: Plan) -> usize
-    ensures { λ r. ⌜ r < 17 ⌝ }
+    ensures { λ r. ⌜ r ≤ most-sites ⌝ }
 {
     let mut count = 0;
     let mut i = 0;
@@ -63,14 +64,13 @@ fn sites(plan: Plan) -> usize
 }
 
 fn listed(plan: Plan, n: usize) -> bool
-    requires { ⌜ n < 64 ⌝ }
+    requires { ⌜ n < most-nodes ⌝ }
 {
-    let place = plan.places[n];
-    (place as usize) < Site::COUNT
+    plan.places[n] != Plan::NOWHERE
 }
 
 fn nodes(plan: Plan) -> usize
-    ensures { λ r. ⌜ r < 65 ⌝ }
+    ensures { λ r. ⌜ r ≤ most-nodes ⌝ }
 {
     let mut count = 0;
     let mut i = 0;
@@ -81,20 +81,6 @@ fn nodes(plan: Plan) -> usize
         i += 1;
     }
     count
-}
-
-fn number_of(why: PlanRefusal) -> usize {
-    match why {
-        PlanRefusal::InputEnds => 1,
-        PlanRefusal::UnknownKind => 2,
-        PlanRefusal::NotRising => 3,
-        PlanRefusal::OutOfRange => 4,
-        PlanRefusal::NotListed => 5,
-        PlanRefusal::LevelTooHigh => 6,
-        PlanRefusal::Loop => 7,
-        PlanRefusal::SelfDependence => 8,
-        PlanRefusal::TooManyEdges => 9,
-    }
 }
 
 fn put_plan(text: &mut [u8]) -> usize {
@@ -119,7 +105,7 @@ fn refused_line(text: &mut [u8], why: PlanRefusal, offset: usize) -> usize {
     let word = put_plan(text);
     let space = put(text, word, b' ');
     let letter = put(text, space, b'R');
-    let first = put_item(text, letter, number_of(why));
+    let first = put_item(text, letter, plan::refusal_number(why) as usize);
     let second = put_item(text, first, offset);
     put(text, second, b'\n')
 }
@@ -137,7 +123,7 @@ fn first_line(text: &mut [u8], read: PlanRead) -> usize {
 
 // A node's number and a colon, and the nodes that it depends on.
 fn node_line(text: &mut [u8], start: usize, table: Table, n: usize) -> usize
-    requires { ⌜ n < 64 ⌝ }
+    requires { ⌜ n < most-nodes ⌝ }
 {
     let mut at = put_number(text, start, n);
     at = put(text, at, b':');

@@ -1,29 +1,38 @@
--- When each number of document 01's table of plan faults is given: the bytes behind the records read so far are of one of five kinds, and a
--- list of tests gives a number exactly when its test is the first to fail. Assumes nothing.
+-- When each number of document 01's table of plan faults is given: the bytes behind the records read so far are of one of five kinds, and of the
+-- checks on a record or on the whole plan the first that fails decides. Assumes nothing.
 use Prim.Native.Nat.{ℕ, zero, suc, _≤_, _<_}
 use native.Mathlib.Omega.{arith}
 use mathlib.Core.Path.{_≡_, refl, sym, ap, subst, _∙_}
 use mathlib.Core.Logic.{_⊎_, inl, inr, ⊎-elim, _↔_}
-use mathlib.Core.Bool.{Bool, true, false, not, _&&_, cond}
+use mathlib.Core.Bool.{Bool, true, false, not}
 use mathlib.Core.List.{List, [], _∷_, _++_}
 use mathlib.Core.Option.{some}
 use lib.ListN.{length}
 use lib.Dec.{eqb}
-use borrow.Author.Tests.{eqb-true, eqb-false, ne-eqb, le-leb, lt-leb, not-true, not-false}
-use Rattle.lists.proofs.CountLaws.{never-both, and-left, and-right}
+use borrow.Author.Tests.{ne-eqb, le-leb, lt-leb, not-true, not-false}
 use Rattle.model.specs.House.{unknown, cut, whole, next}
-use Rattle.model.specs.Plan.{Record, site, node, edge, Levels, six, follows, in-range, known, level-below, room-for, record-fault, first-fault, loops, self-depends, end-fault, plan-kinds, bytes-of}
-use Rattle.model.specs.Reading.{decoded}
+use Rattle.model.specs.Plan.{Record, site, node, edge, Levels, six, follows, in-range, known, level-below, room-for, record-fault, loops, self-depends, end-fault, plan-kinds, bytes-of}
+use Rattle.model.specs.Reading.{Ends, decoded}
+use Rattle.model.proofs.TestLaws.{absent, lone, absent-never, first-fault-is}
 use Rattle.model.specs.Faults.{fault-at, Fault, no-kind, strange-kind, short-body, of-record, of-plan, Given}
 
 -- What stands where a record is due
 
-pub next-record : (r : Record) (rest : List ℕ)
-    → (kind : ℕ) × (body : List ℕ) × (next plan-kinds (bytes-of r ++ rest) ≡ whole kind body rest) × (decoded kind body ≡ some r)
+-- bytes that begin with a record: its kind and its body stand there
+pub record Begins (r : Record) (rest : List ℕ) : Type 0 where
+  pub kind : ℕ
+  pub body : List ℕ
+  pub next-is : next plan-kinds (bytes-of r ++ rest) ≡ whole kind body rest
+  pub decodes : decoded kind body ≡ some r
+
+pub next-record : (r : Record) (rest : List ℕ) → Begins r rest
 unfolding next bytes-of
-next-record (site s t) rest = (1, s ∷ t ∷ [], simp (le-leb 2 (suc (suc (length rest))) (omega arith)), refl)
-next-record (node n s l) rest = (2, n ∷ s ∷ l ∷ [], simp (le-leb 3 (suc (suc (suc (length rest)))) (omega arith)), refl)
-next-record (edge c d) rest = (3, c ∷ d ∷ [], simp (le-leb 2 (suc (suc (length rest))) (omega arith)), refl)
+next-record (site s t) rest =
+    record { kind = 1; body = s ∷ t ∷ []; next-is = simp (le-leb 2 (suc (suc (length rest))) (omega arith)); decodes = refl }
+next-record (node n s l) rest =
+    record { kind = 2; body = n ∷ s ∷ l ∷ []; next-is = simp (le-leb 3 (suc (suc (suc (length rest)))) (omega arith)); decodes = refl }
+next-record (edge c d) rest =
+    record { kind = 3; body = c ∷ d ∷ []; next-is = simp (le-leb 2 (suc (suc (length rest))) (omega arith)); decodes = refl }
 
 pub next-end : (rest : List ℕ) → next plan-kinds (4 ∷ rest) ≡ whole 4 [] rest
 unfolding next
@@ -46,25 +55,25 @@ next-short : (kind size : ℕ) (rest : List ℕ) → plan-kinds kind ≡ some si
 unfolding next
 next-short kind size rest e h = rw (e, lt-leb size (length rest) h)
 
-module _ (levels : Levels) (rs : List Record) where
+module _ (levels : Levels) (ends : Ends) (rs : List Record) where
   -- each case gives the number that it names
-  case-fault : {tail : List ℕ} {n : ℕ} → Fault levels rs tail n → fault-at levels rs tail ≡ n
+  case-fault : {tail : List ℕ} {n : ℕ} → Fault levels ends rs tail n → fault-at levels ends rs tail ≡ n
   unfolding fault-at next
   case-fault (no-kind e q) = rw (e, q)
   case-fault (strange-kind kind rest e out q) = rw (e, q, next-strange kind rest out)
   case-fault (short-body kind size rest e given h q) = rw (e, q, next-short kind size rest given h)
-  case-fault (of-record r rest e q) = let w = next-record r rest in rw (e, w .2, w .3, q)
+  case-fault (of-record r rest e q) = let w = next-record r rest in rw (e, w .next-is, w .decodes, q)
   case-fault (of-plan rest e q) = rw (e, next-end rest, q)
 
   -- and bytes are always of some case
   pair-case : (kind : ℕ) (make : ℕ → ℕ → Record) → plan-kinds kind ≡ some 2 → ((a b : ℕ) → kind ∷ a ∷ b ∷ [] ≡ bytes-of (make a b))
-      → (rest : List ℕ) → (n : ℕ) × Fault levels rs (kind ∷ rest) n
+      → (rest : List ℕ) → (n : ℕ) × Fault levels ends rs (kind ∷ rest) n
   pair-case kind make size same [] = (1, short-body kind 2 [] refl size (omega arith) refl)
   pair-case kind make size same (a ∷ []) = (1, short-body kind 2 (a ∷ []) refl size (omega arith) refl)
   pair-case kind make size same (a ∷ b ∷ rest) =
       (record-fault levels rs (make a b), of-record (make a b) rest (ap (λ (l : List ℕ). l ++ rest) (same a b)) refl)
 
-  some-case : (tail : List ℕ) → (n : ℕ) × Fault levels rs tail n
+  some-case : (tail : List ℕ) → (n : ℕ) × Fault levels ends rs tail n
   unfolding bytes-of
   some-case [] = (1, no-kind refl refl)
   some-case (zero ∷ rest) = (2, strange-kind 0 rest refl (inl (omega arith)) refl)
@@ -74,46 +83,14 @@ module _ (levels : Levels) (rs : List Record) where
   some-case (suc (suc zero) ∷ a ∷ b ∷ []) = (1, short-body 2 3 (a ∷ b ∷ []) refl refl (omega arith) refl)
   some-case (suc (suc zero) ∷ a ∷ b ∷ c ∷ rest) = (record-fault levels rs (node a b c), of-record (node a b c) rest refl refl)
   some-case (suc (suc (suc zero)) ∷ rest) = pair-case 3 edge refl (λ a b. refl) rest
-  some-case (suc (suc (suc (suc zero))) ∷ rest) = (end-fault rs, of-plan rest refl refl)
+  some-case (suc (suc (suc (suc zero))) ∷ rest) = (ends rs, of-plan rest refl refl)
   some-case (suc (suc (suc (suc (suc k)))) ∷ rest) = (2, strange-kind (suc (suc (suc (suc (suc k))))) rest refl (inr (omega arith)) refl)
 
   -- so the number of the decision is that of the case
-  pub fault-is : (tail : List ℕ) (n : ℕ) → (fault-at levels rs tail ≡ n) ↔ Fault levels rs tail n
+  pub fault-is : (tail : List ℕ) (n : ℕ) → (fault-at levels ends rs tail ≡ n) ↔ Fault levels ends rs tail n
   fault-is tail n =
       let w = some-case tail in
-      ((λ e. subst (Fault levels rs tail) (sym (case-fault (w .1)) ∙ e) (w .1)), case-fault)
-
--- Lists of tests
-
--- no test has the number n, and n is not 0
-abbrev pub absent : ℕ → List (Bool × ℕ) → Bool
-absent n [] = not (eqb 0 n)
-absent n (t ∷ ts) = not (eqb (t .1) n) && absent n ts
-
--- no test behind the first one with the number n has it again
-abbrev pub lone : ℕ → List (Bool × ℕ) → Bool
-lone n [] = true
-lone n (t ∷ ts) = cond (eqb (t .1) n) (absent n ts) (lone n ts)
-
-absent-never : (n : ℕ) (ts : List (Bool × ℕ)) → absent n ts ≡ true → first-fault ts ≡ n → ⊥
-absent-never n [] a e = eqb-false 0 n (not-true (eqb 0 n) a) e
-absent-never n (t ∷ ts) a e = go (t .0) e (absent-never n ts (and-right (not (eqb (t .1) n)) (absent n ts) a))
-  where
-    go : (b : Bool) → cond b (first-fault ts) (t .1) ≡ n → (first-fault ts ≡ n → ⊥) → ⊥
-    go true q never = never q
-    go false q never = eqb-false (t .1) n (not-true (eqb (t .1) n) (and-left (not (eqb (t .1) n)) (absent n ts) a)) q
-
--- the first test that fails decides
-pub first-fault-is : (n : ℕ) (ts : List (Bool × ℕ)) → lone n ts ≡ true → (first-fault ts ≡ n) ↔ Given n ts
-first-fault-is n [] l = ((λ e. e), (λ e. e))
-first-fault-is n (t ∷ ts) l = go (t .0) (eqb (t .1) n) refl l (first-fault-is n ts)
-  where
-    go : (b c : Bool) → eqb (t .1) n ≡ c → cond c (absent n ts) (lone n ts) ≡ true → (lone n ts ≡ true → (first-fault ts ≡ n) ↔ Given n ts)
-        → (cond b (first-fault ts) (t .1) ≡ n) ↔ cond c (b ≡ false) ((b ≡ true) × Given n ts)
-    go true true q a ih = ((λ e. absurd (absent-never n ts a e)), (λ p. absurd (never-both refl p)))
-    go false true q a ih = ((λ e. refl), (λ p. eqb-true (t .1) n q))
-    go true false q a ih = ((λ e. (refl, ih a .0 e)), (λ g. ih a .1 (g .1)))
-    go false false q a ih = ((λ e. absurd (eqb-false (t .1) n q e)), (λ g. absurd (never-both (g .0) refl)))
+      ((λ e. subst (Fault levels ends rs tail) (sym (case-fault (w .1)) ∙ e) (w .1)), case-fault)
 
 -- The numbers of a record, by its tests in their order
 module _ (rs : List Record) (r : Record) where
@@ -145,14 +122,6 @@ module _ (rs : List Record) (r : Record) where
       ↔ (follows rs r ≡ true) × ((in-range r ≡ true) × ((known rs r ≡ true) × ((level-below rs r ≡ true) × (room-for rs r ≡ false))))
   record-9 = record-given 9 refl
 
-  pub record-sound : (record-fault six rs r ≡ 0)
-      ↔ (follows rs r ≡ true) × (in-range r ≡ true) × (known rs r ≡ true) × (level-below rs r ≡ true) × (room-for rs r ≡ true)
-  record-sound =
-      let w = record-given 0 refl in (
-        (λ e. let g = w .0 e in (g .0, g .1 .0, g .1 .1 .0, g .1 .1 .1 .0, g .1 .1 .1 .1 .0)),
-        (λ h. w .1 (h .0, (h .1, (h .2, (h .3, (h .4, refl)))))),
-      )
-
 -- The numbers of the whole plan, likewise
 module _ (rs : List Record) where
   abbrev plan-tests : List (Bool × ℕ)
@@ -182,16 +151,16 @@ module _ (rs : List Record) where
 -- The numbers of the bytes behind the records rs
 module _ (rs : List Record) (tail : List ℕ) where
   -- 1, "the input ends where a kind byte or a body byte is due"
-  abbrev Ends : Type 0
-  Ends = (tail ≡ []) ⊎ ((kind : ℕ) × (size : ℕ) × (rest : List ℕ) × (tail ≡ kind ∷ rest) × (plan-kinds kind ≡ some size) × (length rest < size))
+  abbrev EndsEarly : Type 0
+  EndsEarly = (tail ≡ []) ⊎ ((kind : ℕ) × (size : ℕ) × (rest : List ℕ) × (tail ≡ kind ∷ rest) × (plan-kinds kind ≡ some size) × (length rest < size))
 
-  pub bytes-1 : (fault-at six rs tail ≡ 1) ↔ Ends
+  pub bytes-1 : (fault-at six end-fault rs tail ≡ 1) ↔ EndsEarly
   bytes-1 = (
-    (λ e. go (fault-is six rs tail 1 .0 e)),
-    (λ h. case-fault six rs (⊎-elim (λ e. no-kind e refl) (λ w. short-body (w .0) (w .1) (w .2) (w .3) (w .4) (w .5) refl) h)),
+    (λ e. go (fault-is six end-fault rs tail 1 .0 e)),
+    (λ h. case-fault six end-fault rs (⊎-elim (λ e. no-kind e refl) (λ w. short-body (w .0) (w .1) (w .2) (w .3) (w .4) (w .5) refl) h)),
   )
     where
-      go : Fault six rs tail 1 → Ends
+      go : Fault six end-fault rs tail 1 → EndsEarly
       go (no-kind e q) = inl e
       go (strange-kind kind rest e out q) = absurd (omega arith)
       go (short-body kind size rest e given h q) = inr (kind, size, rest, e, given, h)
@@ -202,10 +171,10 @@ module _ (rs : List Record) (tail : List ℕ) where
   abbrev Strange : Type 0
   Strange = (kind : ℕ) × (rest : List ℕ) × (tail ≡ kind ∷ rest) × ((kind < 1) ⊎ (4 < kind))
 
-  pub bytes-2 : (fault-at six rs tail ≡ 2) ↔ Strange
-  bytes-2 = ((λ e. go (fault-is six rs tail 2 .0 e)), (λ w. case-fault six rs (strange-kind (w .0) (w .1) (w .2) (w .3) refl)))
+  pub bytes-2 : (fault-at six end-fault rs tail ≡ 2) ↔ Strange
+  bytes-2 = ((λ e. go (fault-is six end-fault rs tail 2 .0 e)), (λ w. case-fault six end-fault rs (strange-kind (w .0) (w .1) (w .2) (w .3) refl)))
     where
-      go : Fault six rs tail 2 → Strange
+      go : Fault six end-fault rs tail 2 → Strange
       go (no-kind e q) = absurd (omega arith)
       go (strange-kind kind rest e out q) = (kind, rest, e, out)
       go (short-body kind size rest e given h q) = absurd (omega arith)
@@ -220,21 +189,21 @@ module _ (rs : List Record) (tail : List ℕ) where
     abbrev At-end : Type 0
     At-end = (rest : List ℕ) × (tail ≡ 4 ∷ rest) × (end-fault rs ≡ n)
 
-    other : Fault six rs tail n → At-record ⊎ At-end
+    other : Fault six end-fault rs tail n → At-record ⊎ At-end
     other (no-kind e q) = absurd (not-1 q)
     other (strange-kind kind rest e out q) = absurd (not-2 q)
     other (short-body kind size rest e given h q) = absurd (not-1 q)
     other (of-record r rest e q) = inl (r, rest, e, q)
     other (of-plan rest e q) = inr (rest, e, q)
 
-    pub bytes-record : absent n (plan-tests rs) ≡ true → (fault-at six rs tail ≡ n) ↔ At-record
+    pub bytes-record : absent n (plan-tests rs) ≡ true → (fault-at six end-fault rs tail ≡ n) ↔ At-record
     bytes-record a = (
-      (λ e. ⊎-elim (λ w. w) (λ w. absurd (plan-never rs n a (w .2))) (other (fault-is six rs tail n .0 e))),
-      (λ w. case-fault six rs (of-record (w .0) (w .1) (w .2) (w .3))),
+      (λ e. ⊎-elim (λ w. w) (λ w. absurd (plan-never rs n a (w .2))) (other (fault-is six end-fault rs tail n .0 e))),
+      (λ w. case-fault six end-fault rs (of-record (w .0) (w .1) (w .2) (w .3))),
     )
 
-    pub bytes-plan : ((r : Record) → absent n (record-tests rs r) ≡ true) → (fault-at six rs tail ≡ n) ↔ At-end
+    pub bytes-plan : ((r : Record) → absent n (record-tests rs r) ≡ true) → (fault-at six end-fault rs tail ≡ n) ↔ At-end
     bytes-plan a = (
-      (λ e. ⊎-elim (λ w. absurd (record-never rs (w .0) n (a (w .0)) (w .3))) (λ w. w) (other (fault-is six rs tail n .0 e))),
-      (λ w. case-fault six rs (of-plan (w .0) (w .1) (w .2))),
+      (λ e. ⊎-elim (λ w. absurd (record-never rs (w .0) n (a (w .0)) (w .3))) (λ w. w) (other (fault-is six end-fault rs tail n .0 e))),
+      (λ w. case-fault six end-fault rs (of-plan (w .0) (w .1) (w .2))),
     )

@@ -21,7 +21,7 @@ use Rattle.model.specs.Net.{Call, Core, site-of, level-of, has, lookup, 
 use Rattle.model.specs.Command.{return, return-tests, fault}
 use Rattle.model.specs.NetRules.{Keeps, parent-stands, parent-kept}
 use Rattle.model.proofs.GraphLaws.{yes, or-right}
-use Rattle.model.proofs.FaultLaws.{first-fault-is}
+use Rattle.model.proofs.TestLaws.{first-fault-is}
 use Rattle.model.proofs.PlaceLaws.{known-listed, site-step}
 use Rattle.model.proofs.AdmitLaws.{blocker}
 use Rattle.model.proofs.FirmLaws.{active-site}

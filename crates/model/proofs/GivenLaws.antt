@@ -10,7 +10,7 @@ use Rattle.lists.proofs.PickLaws.{all-at}
 use Rattle.model.specs.Faults.{Given}
 use Rattle.model.specs.Net.{Core}
 use Rattle.model.specs.Command.{Command, start, call, return, tests, order, fault}
-use Rattle.model.proofs.FaultLaws.{lone, first-fault-is}
+use Rattle.model.proofs.TestLaws.{lone, first-fault-is}
 
 -- "Order for a start: 20, 21, 22, 26. For a call: 20, 21, 23, 24, 22, 25, 26. For a return: 27, 28, 29"
 pub in-order : (net : Core) (c : Command) → map (λ (t : Bool × ℕ). t .1) (tests net c) ≡ order c

@@ -4,11 +4,17 @@ pub mod PaperLaws
 pub mod TreeLaws
 pub mod AnswerLaws
 pub mod GraphLaws
+pub mod TestLaws
 pub mod FaultLaws
+pub mod TurnLaws
 pub mod ReadingLaws
+pub mod EncodeLaws
+pub mod KindLaws
 pub mod RecordLaws
 pub mod PlanLaws
+pub mod HeldLaws
 pub mod PlanValueLaws
+pub mod RefusalLaws
 pub mod PlanFaultLaws
 pub mod LevelSheet
 pub mod PlaceLaws

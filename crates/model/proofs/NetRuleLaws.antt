@@ -19,7 +19,7 @@ use Rattle.model.specs.Faults.{Given}
 use Rattle.model.specs.Net.{Call, Core, has-node, has, counts}
 use Rattle.model.specs.NetRules.{Book, parent-kept, could-go, NetRules, same-list, own-ticket, some-ticket, tickets-kept, book-kept, all-lawful, rule-tests, broken-rule}
 use Rattle.model.proofs.SiteLaws.{lawful-all}
-use Rattle.model.proofs.FaultLaws.{first-fault-is}
+use Rattle.model.proofs.TestLaws.{first-fault-is}
 use Rattle.model.proofs.RecordLaws.{threads-listed, passes-ok}
 
 pub same-list-is : (xs ys : List ℕ) → same-list xs ys ≡ true → xs ≡ ys
@@ -83,7 +83,7 @@ module _ (net : Core) (book : Book) where
       ⊎-elim
       (λ (p : 0 < threads rs s).
       every-at sites (λ r. lawful (threads rs r) (counts rs cs r)) e s
-      (passes-ok rs pass .site-range s (threads rs s) (threads-listed rs s (λ z. omega arith)) .0))
+      (passes-ok six rs pass .site-range s (threads rs s) (threads-listed rs s (λ z. omega arith)) .0))
       (λ (p : threads rs s ≤ 0). lawful-all (threads rs s) (counts rs cs s) (λ k h. absurd (omega arith)))
       (lt-or-ge 0 (threads rs s))
 

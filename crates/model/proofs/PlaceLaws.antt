@@ -15,7 +15,7 @@ use Rattle.lists.proofs.CountLaws.{never-both, lt-or-ge}
 use Rattle.model.specs.Plan.{Record, node, Place, place, present, threads, six, passes, descends, site-steps, listed}
 use Rattle.model.specs.Net.{has-node, site-of, level-of, place-site, place-level}
 use Rattle.model.proofs.GraphLaws.{yes}
-use Rattle.model.proofs.RecordLaws.{threads-listed, listed-threads, place-listed, passes-ok}
+use Rattle.model.proofs.RecordLaws.{threads-listed, listed-threads, place-listed, passes-ok, levels-below}
 use Rattle.model.proofs.PlanLaws.{node-listed}
 
 module _ (rs : List Record) where
@@ -50,7 +50,7 @@ module _ (rs : List Record) where
     threads-most s =
         ⊎-elim
         (λ (p : 0 < threads rs s).
-        let w = passes-ok rs pass .site-range s (threads rs s) (threads-listed rs s (λ z. omega arith)) in
+        let w = passes-ok six rs pass .site-range s (threads rs s) (threads-listed rs s (λ z. omega arith)) in
         w .2)
         (λ (p : threads rs s ≤ 0). omega arith)
         (lt-or-ge 0 (threads rs s))
@@ -58,13 +58,13 @@ module _ (rs : List Record) where
     -- "the level is .. below its site's threads"
     pub level-below-threads : (n : ℕ) → has-node rs n ≡ true → level-of rs n < threads rs (site-of rs n)
     level-below-threads n e =
-        let ok = passes-ok rs pass in
+        let ok = passes-ok six rs pass in
         let w = ok .node-site n (site-of rs n) (level-of rs n) (node-record n e) in
-        omega (arith, w .2, listed-threads rs (site-of rs n) (w .0) (ok .rising) (w .1))
+        omega (arith, levels-below rs pass n (site-of rs n) (level-of rs n) (w .0) (node-record n e) (w .1), listed-threads rs (site-of rs n) (w .0) (ok .rising) (w .1))
 
     pub site-small : (n : ℕ) → has-node rs n ≡ true → site-of rs n < sites
     site-small n e =
-        let ok = passes-ok rs pass in
+        let ok = passes-ok six rs pass in
         let w = ok .node-site n (site-of rs n) (level-of rs n) (node-record n e) in
         ok .site-range (site-of rs n) (w .0) (w .1) .0
 
@@ -76,7 +76,7 @@ module _ (rs : List Record) where
         go : (o : Option Place) → place rs n ≡ o → place-level o < most-threads
         go none e = omega arith
         go (some p) e =
-            let ok = passes-ok rs pass in
+            let ok = passes-ok six rs pass in
             let w = ok .node-site n (p .at) (p .level) (place-listed rs n p e) in
             let range = ok .site-range (p .at) (w .0) (w .1) in
-            omega (arith, w .2, range .2)
+            omega (arith, levels-below rs pass n (p .at) (p .level) (w .0) (place-listed rs n p e) (w .1), range .2)

@@ -10,9 +10,10 @@ use Rattle.lists.specs.Pick.{count}
 use Rattle.lists.proofs.CountLaws.{not-true-false}
 use Rattle.lists.proofs.PickLaws.{count-less}
 use Rattle.model.specs.Graph.{either, Depends, via}
-use Rattle.model.specs.Plan.{Record, calls, site-steps, listed}
+use Rattle.model.specs.Plan.{Record, calls, six, site-steps, listed}
 use Rattle.model.specs.Reading.{PlanOk}
 use Rattle.model.proofs.GraphLaws.{yes, is-true, or-cases, reach-join, via-sound, via-stay, via-complete, depends-reach, depends-on}
+use Rattle.model.proofs.RecordLaws.{passes-ok}
 use Rattle.model.proofs.PlanLaws.{call-nodes, step-node}
 
 module _ (rs : List Record) where
@@ -24,7 +25,7 @@ module _ (rs : List Record) where
 
   module _ (ok : PlanOk rs) where
     ends : (n m : ℕ) → T (edge-or-step n m) → List·Memᴰ m (listed rs)
-    ends n m h = ⊎-elim (λ a. call-nodes rs (ok .records) n m a .1) (λ b. step-node rs n m b) (or-cases (calls rs n m) (site-steps rs n m) h)
+    ends n m h = ⊎-elim (λ a. call-nodes rs (passes-ok six rs (ok .records)) n m a .1) (λ b. step-node rs n m b) (or-cases (calls rs n m) (site-steps rs n m) h)
 
     pub rank-falls : (n m : ℕ) → List·Memᴰ n (listed rs) → Depends (calls rs) (site-steps rs) n m → rank m < rank n
     unfolding rank

@@ -18,7 +18,7 @@ use Rattle.model.specs.Net.{Call, Core, empty-net, site-of, lookup, is-o
 use Rattle.model.specs.Command.{Command, start, call, return, refused, active, start-tests, call-tests, return-tests, fault, Outcome, opening, serving, done, decided as settled-by, step, run}
 use Rattle.model.specs.NetRules.{Keeps, parent-stands, Firm, Newcomer, Ending}
 use Rattle.model.proofs.SiteLaws.{lawful-all}
-use Rattle.model.proofs.FaultLaws.{first-fault-is}
+use Rattle.model.proofs.TestLaws.{first-fault-is}
 use Rattle.model.proofs.CountsLaws.{A-counts}
 use Rattle.model.proofs.FirmLaws.{keeps-firm, opened-firm, closed-firm, woken-firm}
 use Rattle.model.proofs.SettledLaws.{Settled, opened-settled, returned-settled}

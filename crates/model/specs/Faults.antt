@@ -9,42 +9,42 @@ use mathlib.Core.Option.{Option, none, some}
 use lib.ListN.{length}
 use lib.Dec.{eqb}
 use Rattle.model.specs.House.{Next, lacking, unknown, cut, whole, next}
-use Rattle.model.specs.Plan.{Record, Levels, record-fault, end-fault, plan-kinds, bytes-of}
-use Rattle.model.specs.Reading.{decoded}
+use Rattle.model.specs.Plan.{Record, Levels, record-fault, plan-kinds, bytes-of}
+use Rattle.model.specs.Reading.{Ends, decoded}
 
 -- The number, 0 where nothing is amiss
 
 -- a record's own number, or that of the whole plan at the end record
-abbrev pub fault-of : Levels → List Record → Option Record → ℕ
-fault-of levels rs none = end-fault rs
-fault-of levels rs (some r) = record-fault levels rs r
+abbrev pub fault-decoded : Levels → Ends → List Record → Option Record → ℕ
+fault-decoded levels ends rs none = ends rs
+fault-decoded levels ends rs (some r) = record-fault levels rs r
 
 -- "Checks on one record, in order: 2, 1, 3, 4, 5, 6, 9"
-abbrev pub fault-in : Levels → List Record → Next → ℕ
-fault-in levels rs lacking = 1
-fault-in levels rs unknown = 2
-fault-in levels rs cut = 1
-fault-in levels rs (whole kind body rest) = fault-of levels rs (decoded kind body)
+abbrev pub fault-next : Levels → Ends → List Record → Next → ℕ
+fault-next levels ends rs lacking = 1
+fault-next levels ends rs unknown = 2
+fault-next levels ends rs cut = 1
+fault-next levels ends rs (whole kind body rest) = fault-decoded levels ends rs (decoded kind body)
 
 -- the number for the bytes that stand behind the records rs
-unfoldable pub fault-at : Levels → List Record → List ℕ → ℕ
-fault-at levels rs tail = fault-in levels rs (next plan-kinds tail)
+unfoldable pub fault-at : Levels → Ends → List Record → List ℕ → ℕ
+fault-at levels ends rs tail = fault-next levels ends rs (next plan-kinds tail)
 
 -- When it is given
 
 -- the cases of what stands behind the records rs, each with its number
-pub data Fault (levels : Levels) (rs : List Record) (tail : List ℕ) (n : ℕ) : Type 0 where
+pub data Fault (levels : Levels) (ends : Ends) (rs : List Record) (tail : List ℕ) (n : ℕ) : Type 0 where
   -- 1, "the input ends where a kind byte .. is due"
-  no-kind : tail ≡ [] → n ≡ 1 → Fault levels rs tail n
+  no-kind : tail ≡ [] → n ≡ 1 → Fault levels ends rs tail n
   -- 2, "the kind is not 1 to 4"
-  strange-kind : (kind : ℕ) (rest : List ℕ) → tail ≡ kind ∷ rest → (kind < 1) ⊎ (4 < kind) → n ≡ 2 → Fault levels rs tail n
+  strange-kind : (kind : ℕ) (rest : List ℕ) → tail ≡ kind ∷ rest → (kind < 1) ⊎ (4 < kind) → n ≡ 2 → Fault levels ends rs tail n
   -- 1, "or a body byte is due"
   short-body : (kind size : ℕ) (rest : List ℕ)
-      → tail ≡ kind ∷ rest → plan-kinds kind ≡ some size → length rest < size → n ≡ 1 → Fault levels rs tail n
+      → tail ≡ kind ∷ rest → plan-kinds kind ≡ some size → length rest < size → n ≡ 1 → Fault levels ends rs tail n
   -- 3, 4, 5, 6, 9, or 0
-  of-record : (r : Record) (rest : List ℕ) → tail ≡ bytes-of r ++ rest → record-fault levels rs r ≡ n → Fault levels rs tail n
+  of-record : (r : Record) (rest : List ℕ) → tail ≡ bytes-of r ++ rest → record-fault levels rs r ≡ n → Fault levels ends rs tail n
   -- 7, 8, or 0
-  of-plan : (rest : List ℕ) → tail ≡ 4 ∷ rest → end-fault rs ≡ n → Fault levels rs tail n
+  of-plan : (rest : List ℕ) → tail ≡ 4 ∷ rest → ends rs ≡ n → Fault levels ends rs tail n
 
 -- "The first fault decides": the test with the number n fails and each test before it passes; for 0, each test passes
 abbrev pub Given : ℕ → List (Bool × ℕ) → Type 0

@@ -1,10 +1,12 @@
 -- Plans as records and their checks: document 01, "Plan bytes". A plan is the list of its records, the latest first, so that what stands
 -- behind a record is what was read before it. Assumes nothing.
-use Prim.Native.Nat.{ℕ, suc}
+use Prim.Native.Nat.{ℕ}
+use mathlib.Core.Path.{_≡_, refl}
 use mathlib.Core.Bool.{Bool, true, false, not, _&&_, _||_, cond}
 use mathlib.Core.List.{List, [], _∷_, _++_}
 use mathlib.Core.Option.{Option, none, some}
 use lib.Dec.{ltb, leb, eqb}
+use lib.ListN.{length}
 use Rattle.ids.specs.Limits.{sites, most-threads, nodes, most-edges}
 use Rattle.model.specs.Graph.{either, via}
 use Rattle.model.specs.House.{Kinds}
@@ -17,42 +19,81 @@ pub data Record : Type 0 where
   -- calling node, called node
   edge : ℕ → ℕ → Record
 
--- What the records before say
+-- The records of one kind, the latest first
 
--- the threads of a site, 0 where it has no record
-unfoldable pub threads : List Record → ℕ → ℕ
-threads [] s = 0
-threads (site r t ∷ rs) s = cond (eqb r s) t (threads rs s)
-threads (node n r l ∷ rs) s = threads rs s
-threads (edge c d ∷ rs) s = threads rs s
-
--- a node's site and level, where it has a record
+-- a node's site and level
 pub record Place : Type 0 where
   pub at : ℕ
   pub level : ℕ
 
+-- a site and its threads
+abbrev pub as-site : Record → Option (ℕ × ℕ)
+as-site (site s t) = some (s, t)
+as-site (node n s l) = none
+as-site (edge c d) = none
+
+-- a node and where it stands
+abbrev pub as-node : Record → Option (ℕ × Place)
+as-node (site s t) = none
+as-node (node n s l) = some (n, record { at = s; level = l })
+as-node (edge c d) = none
+
+-- the calling node and the called one
+abbrev pub as-edge : Record → Option (ℕ × ℕ)
+as-edge (site s t) = none
+as-edge (node n s l) = none
+as-edge (edge c d) = some (c, d)
+
+abbrev pub push : {X : Type 0} → Option X → List X → List X
+push none xs = xs
+push (some x) xs = x ∷ xs
+
+abbrev pub chosen : {X : Type 0} → (Record → Option X) → List Record → List X
+chosen how [] = []
+chosen how (r ∷ rs) = push (how r) (chosen how rs)
+
+abbrev pub sites-of : List Record → List (ℕ × ℕ)
+sites-of rs = chosen as-site rs
+
+abbrev pub nodes-of : List Record → List (ℕ × Place)
+nodes-of rs = chosen as-node rs
+
+abbrev pub edges-of : List Record → List (ℕ × ℕ)
+edges-of rs = chosen as-edge rs
+
+-- What the records before say
+
+-- what stands under a number
+abbrev pub entry : {X : Type 0} → List (ℕ × X) → ℕ → Option X
+entry [] n = none
+entry (e ∷ es) n = cond (eqb (e .0) n) (some (e .1)) (entry es n)
+
+abbrev pub or-zero : Option ℕ → ℕ
+or-zero none = 0
+or-zero (some n) = n
+
+-- the threads of a site, 0 where it has no record
+unfoldable pub threads : List Record → ℕ → ℕ
+threads rs s = or-zero (entry (sites-of rs) s)
+
+-- a node's site and level, where it has a record
 unfoldable pub place : List Record → ℕ → Option Place
-place [] n = none
-place (site r t ∷ rs) n = place rs n
-place (node m r l ∷ rs) n = cond (eqb m n) (some (record { at = r; level = l })) (place rs n)
-place (edge c d ∷ rs) n = place rs n
+place rs n = entry (nodes-of rs) n
 
 abbrev pub present : Option Place → Bool
 present none = false
 present (some p) = true
 
+abbrev pub among : List (ℕ × ℕ) → ℕ → ℕ → Bool
+among [] c d = false
+among (e ∷ es) c d = (eqb (e .0) c && eqb (e .1) d) || among es c d
+
 -- the call edge from c to d has a record
 unfoldable pub calls : List Record → ℕ → ℕ → Bool
-calls [] c d = false
-calls (site r t ∷ rs) c d = calls rs c d
-calls (node n r l ∷ rs) c d = calls rs c d
-calls (edge e f ∷ rs) c d = (eqb e c && eqb f d) || calls rs c d
+calls rs c d = among (edges-of rs) c d
 
 unfoldable pub edges : List Record → ℕ
-edges [] = 0
-edges (site r t ∷ rs) = edges rs
-edges (node n r l ∷ rs) = edges rs
-edges (edge c d ∷ rs) = suc (edges rs)
+edges rs = length (edges-of rs)
 
 -- The checks on one record
 
@@ -93,13 +134,19 @@ room-for rs (site r t) = true
 room-for rs (node n s l) = true
 room-for rs (edge c d) = ltb (edges rs) most-edges
 
+-- each test has a number, and 0 is none
+abbrev pub numbered : List (Bool × ℕ) → Bool
+numbered [] = true
+numbered (t ∷ ts) = not (eqb (t .1) 0) && numbered ts
+
 -- the tests of a record's level, in order, each with the number that it gives where it fails
-abbrev pub Levels : Type 0
-Levels = List Record → Record → List (Bool × ℕ)
+pub record Levels : Type 0 where
+  pub tests : List Record → Record → List (Bool × ℕ)
+  pub all-numbered : (rs : List Record) (r : Record) → numbered (tests rs r) ≡ true
 
 -- a plan is read with check 6 alone
 abbrev pub six : Levels
-six rs r = (level-below rs r, 6) ∷ []
+six = record { tests = λ rs r. (level-below rs r, 6) ∷ []; all-numbered = λ rs r. refl }
 
 -- the number of the first test that fails, 0 where all pass
 abbrev pub first-fault : List (Bool × ℕ) → ℕ
@@ -109,7 +156,7 @@ first-fault (t ∷ ts) = cond (t .0) (first-fault ts) (t .1)
 -- "Checks on one record, in order": 3, 4, 5, 6, 9 (2 and 1 come before a record can be read at all)
 unfoldable pub record-fault : Levels → List Record → Record → ℕ
 record-fault levels rs r =
-    first-fault (((follows rs r, 3) ∷ (in-range r, 4) ∷ (known rs r, 5) ∷ []) ++ levels rs r ++ ((room-for rs r, 9) ∷ []))
+    first-fault (((follows rs r, 3) ∷ (in-range r, 4) ∷ (known rs r, 5) ∷ []) ++ levels .tests rs r ++ ((room-for rs r, 9) ∷ []))
 
 -- each record passes the checks after those before it
 unfoldable pub passes : Levels → List Record → Bool
@@ -130,19 +177,21 @@ site-steps rs n m = descends (place rs n) (place rs m)
 abbrev pub no-steps : ℕ → ℕ → Bool
 no-steps n m = false
 
+abbrev pub numbers : {X : Type 0} → List (ℕ × X) → List ℕ
+numbers [] = []
+numbers (e ∷ es) = e .0 ∷ numbers es
+
 -- the nodes that have a record
 unfoldable pub listed : List Record → List ℕ
-listed [] = []
-listed (site r t ∷ rs) = listed rs
-listed (node n s l ∷ rs) = n ∷ listed rs
-listed (edge c d ∷ rs) = listed rs
+listed rs = numbers (nodes-of rs)
 
--- some listed edge is closed backwards: from the called node a path of these steps leads to the calling one
+abbrev pub some-backwards : (ℕ → ℕ → Bool) → List ℕ → List (ℕ × ℕ) → Bool
+some-backwards step ns [] = false
+some-backwards step ns (e ∷ es) = via step ns (e .1) (e .0) || some-backwards step ns es
+
+-- some edge is closed backwards: from the called node a path of these steps leads to the calling one
 unfoldable pub closed-backwards : (ℕ → ℕ → Bool) → List ℕ → List Record → Bool
-closed-backwards step ns [] = false
-closed-backwards step ns (site r t ∷ rs) = closed-backwards step ns rs
-closed-backwards step ns (node n s l ∷ rs) = closed-backwards step ns rs
-closed-backwards step ns (edge c d ∷ rs) = via step ns d c || closed-backwards step ns rs
+closed-backwards step ns rs = some-backwards step ns (edges-of rs)
 
 -- check 7, "the call edges have a loop", and check 8, "some node depends on itself": decided over the plan's own nodes
 unfoldable pub loops : List Record → Bool

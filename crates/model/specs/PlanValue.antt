@@ -1,22 +1,25 @@
 -- A plan as the value that holds it: the records stored one after the other in the empty plan, so that each plan has one value.
 -- Assumes nothing.
 use Prim.Native.Nat.{ℕ, zero, suc, _+_, min}
-use mathlib.Core.Bool.{cond}
+use mathlib.Core.Bool.{Bool, not, cond}
 use mathlib.Core.List.{List, [], _∷_}
 use mathlib.Core.Option.{Option, none, some}
 use lib.ListN.{getD, replicate, set}
-use lib.Dec.{eqb, ltb}
+use lib.Dec.{eqb}
 use Rattle.ids.specs.Limits.{sites, nodes, most-edges}
 use Rattle.ids.specs.Made.{Told}
-use Rattle.model.specs.Plan.{Record, site, node, edge, Place}
+use Rattle.model.specs.Plan.{Record, site, node, edge, Place, push}
 use Rattle.model.specs.Reading.{Reading, accepted, refused}
 use Rattle.model.specs.declared.Plan.{Plan}
 use Rattle.model.specs.declared.PlanRefusal.{PlanRefusal}
 use Rattle.model.specs.declared.ReadAnswer.{ReadAnswer}
 
--- a node that has no record is nowhere
+-- a node that has no record is nowhere; at any other place it has one, also where no site has that number (check 5)
 abbrev pub nowhere : ℕ
 nowhere = 255
+
+abbrev pub somewhere : ℕ → Bool
+somewhere place = not (eqb place nowhere)
 
 unfoldable pub empty-plan : Plan
 empty-plan =
@@ -83,23 +86,30 @@ reading-plan (accepted rs used) = value rs
 reading-plan (refused number offset) = empty-plan
 
 -- The records that a plan's value holds, whoever made it: its sites, nodes and edges in the order of their numbers, the latest first. A site has a
--- record where its threads are not 0, and a node where its site is below 16
+-- record where its threads are not 0, and a node where its place is not nowhere
+
+-- a record or none for each number below k
+abbrev pub each : (ℕ → Option Record) → ℕ → List Record → List Record
+each record-at zero rs = rs
+each record-at (suc k) rs = push (record-at k) (each record-at k rs)
+
+abbrev pub site-at : List ℕ → ℕ → Option Record
+site-at threads s = cond (eqb (getD threads s 0) 0) none (some (site s (getD threads s 0)))
+
+abbrev pub node-at : List ℕ → List ℕ → ℕ → Option Record
+node-at places levels n = cond (somewhere (getD places n nowhere)) (some (node n (getD places n nowhere) (getD levels n 0))) none
+
+abbrev pub edge-at : List ℕ → List ℕ → ℕ → Option Record
+edge-at callers callees i = some (edge (getD callers i 0) (getD callees i 0))
 
 abbrev pub site-records : List ℕ → ℕ → List Record
-site-records threads zero = []
-site-records threads (suc s) =
-    cond (eqb (getD threads s 0) 0) (site-records threads s) (site s (getD threads s 0) ∷ site-records threads s)
+site-records threads k = each (site-at threads) k []
 
 abbrev pub node-records : List ℕ → List ℕ → ℕ → List Record → List Record
-node-records places levels zero rs = rs
-node-records places levels (suc n) rs =
-    cond (ltb (getD places n nowhere) sites)
-    (node n (getD places n nowhere) (getD levels n 0) ∷ node-records places levels n rs)
-    (node-records places levels n rs)
+node-records places levels k rs = each (node-at places levels) k rs
 
 abbrev pub edge-records : List ℕ → List ℕ → ℕ → List Record → List Record
-edge-records callers callees zero rs = rs
-edge-records callers callees (suc i) rs = edge (getD callers i 0) (getD callees i 0) ∷ edge-records callers callees i rs
+edge-records callers callees k rs = each (edge-at callers callees) k rs
 
 unfoldable pub records-of : Plan → List Record
 records-of p =
@@ -109,4 +119,4 @@ records-of p =
 -- a node's site and level in a plan's value, where it has a record there
 unfoldable pub held : Plan → ℕ → Option Place
 held p n =
-    cond (ltb (getD (p .places) n nowhere) sites) (some (record { at = getD (p .places) n nowhere; level = getD (p .levels) n 0 })) none
+    cond (somewhere (getD (p .places) n nowhere)) (some (record { at = getD (p .places) n nowhere; level = getD (p .levels) n 0 })) none

@@ -1,6 +1,6 @@
 -- Reading a plan: document 01, "Plan bytes". "The reader goes through the lent bytes from record to record, keeping its place, and answers the
 -- plan and the bytes used, or a refusal and an offset." Assumes nothing.
-use Prim.Native.Nat.{ℕ, zero, suc, _+_}
+use Prim.Native.Nat.{ℕ, zero, suc, _+_, _-_}
 use mathlib.Core.Path.{_≡_}
 use mathlib.Core.Bool.{Bool, true, false, cond}
 use mathlib.Core.List.{List, [], _∷_}
@@ -24,34 +24,56 @@ decoded kind body =
     (cond (eqb kind 2) (some (node (getD body 0 0) (getD body 1 0) (getD body 2 0)))
     (cond (eqb kind 3) (some (edge (getD body 0 0) (getD body 1 0))) none))
 
--- at the end record, with its offset: 7, then 8; else the plan is accepted
-abbrev pub finish : Bool → List Record → ℕ → Reading
-finish true rs at = accepted rs (at + 1)
-finish false rs at = refused (end-fault rs) at
+-- the number that the checks on the whole plan give at the end record, 0 where it is accepted
+abbrev pub Ends : Type 0
+Ends = List Record → ℕ
+
+-- nothing is asked of the whole plan
+abbrev pub unchecked : Ends
+unchecked rs = 0
+
+-- at the end record, with the number of its checks and its offset
+abbrev pub finish : Bool → ℕ → List Record → ℕ → Reading
+finish true number rs at = accepted rs (at + 1)
+finish false number rs at = refused number at
 
 -- after a record's checks: go on behind it, or stop with its number
 abbrev pub keep : Bool → Levels → (List Record → ℕ → Reading) → List Record → ℕ → Record → Reading
 keep true levels go rs at r = go (r ∷ rs) (at + length (bytes-of r))
 keep false levels go rs at r = refused (record-fault levels rs r) at
 
-abbrev pub take-in : Levels → (List Record → ℕ → Reading) → List Record → ℕ → Option Record → Reading
-take-in levels go rs at none = finish (eqb (end-fault rs) 0) rs at
-take-in levels go rs at (some r) = keep (eqb (record-fault levels rs r) 0) levels go rs at r
+abbrev pub take-in : Levels → Ends → (List Record → ℕ → Reading) → List Record → ℕ → Option Record → Reading
+take-in levels ends go rs at none = finish (eqb (ends rs) 0) (ends rs) rs at
+take-in levels ends go rs at (some r) = keep (eqb (record-fault levels rs r) 0) levels go rs at r
 
 -- "A record that can't be read ends the reading there"
-abbrev pub turn : Levels → (List Record → ℕ → List ℕ → Reading) → List Record → ℕ → Next → Reading
-turn levels go rs at lacking = refused 1 at
-turn levels go rs at unknown = refused 2 at
-turn levels go rs at cut = refused 1 at
-turn levels go rs at (whole kind body rest) = take-in levels (λ qs to. go qs to rest) rs at (decoded kind body)
+abbrev pub turn : Levels → Ends → (List Record → ℕ → List ℕ → Reading) → List Record → ℕ → Next → Reading
+turn levels ends go rs at lacking = refused 1 at
+turn levels ends go rs at unknown = refused 2 at
+turn levels ends go rs at cut = refused 1 at
+turn levels ends go rs at (whole kind body rest) = take-in levels ends (λ qs to. go qs to rest) rs at (decoded kind body)
 
 -- the reading behind the records rs, at an offset; each turn uses a byte at least, so that as many turns as bytes and one more are enough
-unfoldable pub read-on : Levels → ℕ → List Record → ℕ → List ℕ → Reading
-read-on levels zero rs at bytes = refused 1 at
-read-on levels (suc turns) rs at bytes = turn levels (λ qs to rest. read-on levels turns qs to rest) rs at (next plan-kinds bytes)
+unfoldable pub read-on : Levels → Ends → ℕ → List Record → ℕ → List ℕ → Reading
+read-on levels ends zero rs at bytes = refused 1 at
+read-on levels ends (suc turns) rs at bytes =
+    turn levels ends (λ qs to rest. read-on levels ends turns qs to rest) rs at (next plan-kinds bytes)
 
+abbrev pub read-with : Levels → Ends → List ℕ → Reading
+read-with levels ends bytes = read-on levels ends (suc (length bytes)) [] 0 bytes
+
+-- a plan is read with check 6 of each node, and with 7, then 8 at the end record
 unfoldable pub read : List ℕ → Reading
-read bytes = read-on six (suc (length bytes)) [] 0 bytes
+read bytes = read-with six end-fault bytes
+
+-- the reading as far as the end record, before 7 and 8
+unfoldable pub scanned : List ℕ → Reading
+scanned bytes = read-with six unchecked bytes
+
+-- the checks at the end record of a reading that came so far
+abbrev pub end-checked : Ends → Reading → Reading
+end-checked ends (accepted rs used) = finish (eqb (ends rs) 0) (ends rs) rs (used - 1)
+end-checked ends (refused number at) = refused number at
 
 -- a plan that is to be accepted: its records pass the file's checks, the call edges have no loop, and no node depends on itself
 pub record PlanOk (rs : List Record) : Type 0 where

@@ -4,7 +4,7 @@ use Prim.Native.Nat.{ℕ, _≤_, _<_}
 use mathlib.Core.Path.{_≡_}
 use mathlib.Core.List.{List, [], _∷_, List·Memᴰ}
 use Rattle.ids.specs.Limits.{sites, most-threads, nodes, most-edges}
-use Rattle.model.specs.Plan.{Record, site, node, edge, edges}
+use Rattle.model.specs.Plan.{Record, site, node, edge, edges, Levels, first-fault}
 
 -- Order
 
@@ -42,15 +42,26 @@ Rising (r ∷ rs) = Rising rs × ((q : Record) → List·Memᴰ q rs → Rises q
 abbrev pub Listed : List Record → ℕ → Type 0
 Listed rs n = (s : ℕ) × (l : ℕ) × List·Memᴰ (node n s l) rs
 
+-- checks 3, 4, 5 and 9; what is asked of the levels stands apart
 pub record RecordsOk (rs : List Record) : Type 0 where
   -- 3
   pub rising : Rising rs
   -- 4
   pub site-range : (s t : ℕ) → List·Memᴰ (site s t) rs → (s < sites) × (0 < t) × (t ≤ most-threads)
   pub node-range : (n s l : ℕ) → List·Memᴰ (node n s l) rs → n < nodes
-  -- 5 and 6: a node's site has a record, and the level is below its threads
-  pub node-site : (n s l : ℕ) → List·Memᴰ (node n s l) rs → (t : ℕ) × List·Memᴰ (site s t) rs × (l < t)
   -- 5
+  pub node-site : (n s l : ℕ) → List·Memᴰ (node n s l) rs → (t : ℕ) × List·Memᴰ (site s t) rs
   pub edge-nodes : (c d : ℕ) → List·Memᴰ (edge c d) rs → Listed rs c × Listed rs d
   -- 9
   pub edge-count : edges rs ≤ most-edges
+
+-- The levels
+
+-- 6
+abbrev pub LevelsBelow : List Record → Type 0
+LevelsBelow rs = (n s l t : ℕ) → List·Memᴰ (node n s l) rs → List·Memᴰ (site s t) rs → l < t
+
+-- whatever tests a plan has for them, each passes behind the records before
+abbrev pub LevelsPass : Levels → List Record → Type 0
+LevelsPass levels [] = Unit {0}
+LevelsPass levels (r ∷ rs) = LevelsPass levels rs × (first-fault (levels .tests rs r) ≡ 0)

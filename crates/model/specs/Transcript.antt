@@ -6,7 +6,7 @@ use mathlib.Core.Option.{none, some}
 use lib.ListN.{length, getD, drop}
 use lib.Dec.{eqb}
 use Rattle.model.specs.House.{Kinds, Next, lacking, unknown, cut, whole, next}
-use Rattle.model.specs.Plan.{Record, site, node, edge, listed, edges}
+use Rattle.model.specs.Plan.{sites-of, listed, edges}
 use Rattle.model.specs.Reading.{Reading, accepted, refused, read}
 use Rattle.model.specs.Net.{Core, empty-net}
 use Rattle.model.specs.Command.{Command, start, call, return, step, ask, room-at}
@@ -65,18 +65,11 @@ unfoldable pub lines : ℕ → Core → ℕ → ℕ → List ℕ → Text
 lines zero net at commands bytes = []
 lines (suc turns) net at commands bytes = turn (lines turns) net at commands (next command-kinds bytes)
 
--- the sites that have a record
-unfoldable pub site-count : List Record → ℕ
-site-count [] = 0
-site-count (site s t ∷ rs) = suc (site-count rs)
-site-count (node n s l ∷ rs) = site-count rs
-site-count (edge c d ∷ rs) = site-count rs
-
 -- "or `plan R`, refusal, offset, and nothing more"
 abbrev pub behind-plan : List ℕ → Reading → Text
 behind-plan input (refused number offset) = plan-refused-line number offset
 behind-plan input (accepted rs used) =
-    plan-line (site-count rs) (length (listed rs)) (edges rs) used ++ lines (suc (length input)) (empty-net rs) used 0 (drop used input)
+    plan-line (length (sites-of rs)) (length (listed rs)) (edges rs) used ++ lines (suc (length input)) (empty-net rs) used 0 (drop used input)
 
 -- "It reads a plan and then commands from standard input"
 unfoldable pub transcript : List ℕ → Text

@@ -1,3 +1,3 @@
-mod TakenLaws
+mod StandsLaws
 mod ReadLaws
-mod FinishLaws
+mod AnswerLaws

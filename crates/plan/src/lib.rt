@@ -1,12 +1,8 @@
 // Reading a plan: from record to record through the lent bytes, up to the end record, and then the checks on the whole plan.
 ghost use mathlib.Core.Path.{_≡_};
-ghost use mathlib.Core.Bool.{true};
-ghost use Prim.Native.Nat.{_<_, _^_};
-ghost use lib.Dec.{eqb};
-ghost use Rattle.model.specs.Plan.{six, passes, end-fault};
-ghost use Rattle.model.specs.Reading.{finish, read as reading};
-ghost use Rattle.model.specs.PlanValue.{value, records-of};
-ghost use Rattle.plan.specs.Answers.{Answers, Stops, refusal};
+ghost use Rattle.model.specs.Reading.{scanned as scanning, read as reading};
+ghost use Rattle.model.specs.PlanValue.{refusal-number};
+ghost use Rattle.plan.specs.Answers.{Answers, refused-read, accepted-read, why-unread};
 use model::Plan;
 use model::PlanRead;
 use model::PlanRecord;
@@ -15,21 +11,26 @@ use model::ReadAnswer;
 use record::Checked;
 use record::NextRecord;
 
-// Where the reading of records stops.
-pub enum Stop {
-    // The offset of the end record.
-    End(usize),
-    Refused(PlanRefusal, usize),
-}
-
-pub struct Scanned {
-    pub stop: Stop,
-    pub plan: Plan,
+// A refusal's number in document 01.
+pub fn refusal_number(why: PlanRefusal) -> u8
+    ensures { λ r. ⌜ r ≡ refusal-number why ⌝ }
+{
+    match why {
+        PlanRefusal::InputEnds => 1,
+        PlanRefusal::UnknownKind => 2,
+        PlanRefusal::NotRising => 3,
+        PlanRefusal::OutOfRange => 4,
+        PlanRefusal::NotListed => 5,
+        PlanRefusal::LevelTooHigh => 6,
+        PlanRefusal::Loop => 7,
+        PlanRefusal::SelfDependence => 8,
+        PlanRefusal::TooManyEdges => 9,
+    }
 }
 
 // A refusal at an offset, with the plan that is handed back.
 fn refused(why: PlanRefusal, at: usize, back: Plan) -> PlanRead
-    ensures { λ r. ⌜ r ≡ refusal why at back ⌝ }
+    ensures { λ r. ⌜ r ≡ refused-read why at back ⌝ }
 {
     PlanRead {
         answer: ReadAnswer::Refused(why, at),
@@ -37,58 +38,63 @@ fn refused(why: PlanRefusal, at: usize, back: Plan) -> PlanRead
     }
 }
 
-// The answer at the end record: 7, then 8, else the plan.
-fn finished(plan: Plan, at: usize) -> PlanRead
-    requires { ⌜ (passes six (records-of plan) ≡ true) × (value (records-of plan) ≡ plan) × (at < 2 ^ 63) ⌝ }
-    ensures { λ r. ⌜ Answers r (finish (eqb (end-fault (records-of plan)) 0) (records-of plan) at) ⌝ }
+// The bytes used, with the plan.
+fn accepted(used: usize, plan: Plan) -> PlanRead
+    ensures { λ r. ⌜ r ≡ accepted-read used plan ⌝ }
 {
-    if cycles::loops(plan) {
-        return refused(PlanRefusal::Loop, at, record::empty());
-    }
-    if cycles::self_depends(plan) {
-        return refused(PlanRefusal::SelfDependence, at, record::empty());
-    }
     PlanRead {
-        answer: ReadAnswer::Accepted(at + 1),
+        answer: ReadAnswer::Accepted(used),
         plan,
     }
 }
 
-// Reads records up to the end record or to the first that has a fault. The plan holds the records before.
-pub fn scan(bytes: &[u8]) -> Scanned
-    ensures { λ r. ⌜ Stops (now (bytes .entry)) (r .plan) (r .stop) ⌝ }
+// Why what stands at an offset is no record.
+fn unread(found: NextRecord) -> PlanRefusal
+    ensures { λ r. ⌜ r ≡ why-unread found ⌝ }
 {
-    let mut plan = record::empty();
+    match found {
+        NextRecord::Whole(_, _) => PlanRefusal::InputEnds,
+        NextRecord::Cut => PlanRefusal::InputEnds,
+        NextRecord::Unknown => PlanRefusal::UnknownKind,
+    }
+}
+
+// Reads records up to the end record, before the checks on the whole plan. Each is stored here, in place: a plan that went to another function and
+// back would be copied for each record.
+pub fn scan(bytes: &[u8]) -> PlanRead
+    ensures { λ r. ⌜ Answers r (scanning (now (bytes .entry))) ⌝ }
+{
+    let none = record::empty();
+    let mut plan = none;
     let mut last = PlanRecord::End;
     let mut at = 0;
     loop {
         let found = record::next_record(bytes, at);
-        if let NextRecord::Unknown = found {
-            return Scanned {
-                stop: Stop::Refused(PlanRefusal::UnknownKind, at),
-                plan,
-            };
-        }
         let NextRecord::Whole(next, behind) = found else {
-            return Scanned {
-                stop: Stop::Refused(PlanRefusal::InputEnds, at),
-                plan,
-            };
+            return refused(unread(found), at, none);
         };
-        if let PlanRecord::End = next {
-            return Scanned {
-                stop: Stop::End(at),
-                plan,
-            };
-        }
-        let checked = record::check(plan, last, next);
+        let checked = record::check(&plan.threads, &plan.places, plan.edges, last, next);
         if let Checked::Refused(why) = checked {
-            return Scanned {
-                stop: Stop::Refused(why, at),
-                plan,
-            };
+            return refused(why, at, none);
         }
-        plan = record::store(plan, next);
+        match next {
+            PlanRecord::Site(site, threads) => {
+                let s = site.0 as usize;
+                plan.threads[s] = threads;
+            }
+            PlanRecord::Node(node, site, level) => {
+                let n = node.0 as usize;
+                plan.places[n] = site.0;
+                plan.levels[n] = level.0;
+            }
+            PlanRecord::Edge(caller, callee) => {
+                let i = plan.edges;
+                plan.callers[i] = caller.0;
+                plan.callees[i] = callee.0;
+                plan.edges = i + 1;
+            }
+            PlanRecord::End => return accepted(behind, plan),
+        }
         last = next;
         at = behind;
     }
@@ -99,11 +105,15 @@ pub fn read(bytes: &[u8]) -> PlanRead
     ensures { λ r. ⌜ Answers r (reading (now (bytes .entry))) ⌝ }
 {
     let scanned = scan(bytes);
+    let answer = scanned.answer;
+    let ReadAnswer::Accepted(used) = answer else {
+        return scanned;
+    };
     let plan = scanned.plan;
     let none = record::empty();
-    let stop = scanned.stop;
-    match stop {
-        Stop::End(at) => finished(plan, at),
-        Stop::Refused(why, at) => refused(why, at, none),
+    let checked = record::check_end(plan);
+    if let Checked::Refused(why) = checked {
+        return refused(why, used - 1, none);
     }
+    scanned
 }

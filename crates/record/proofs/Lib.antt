@@ -1,2 +1,3 @@
 mod NextLaws
 pub mod RecordFaults
+pub mod WholeLaws

@@ -1,17 +1,24 @@
 -- One record over the plan's value, for the contracts of `record`. Assumes nothing.
-use Prim.Native.Nat.{ℕ, suc, _+_, _<_}
+use Prim.Native.Nat.{ℕ, suc, _+_}
 use mathlib.Core.Bool.{Bool, true, false, not, _&&_, _||_, cond}
 use mathlib.Core.List.{List, [], _∷_}
+use mathlib.Core.Option.{Option, none, some}
 use lib.ListN.{length, getD, drop}
 use lib.Dec.{ltb, leb, eqb}
 use Rattle.ids.specs.Limits.{sites, most-threads, nodes, most-edges}
 use Rattle.model.specs.House.{Next, lacking, unknown, cut, whole, next}
 use Rattle.model.specs.Plan.{Record, plan-kinds, first-fault, site, node, edge}
-use Rattle.model.specs.PlanValue.{refusal-number, nowhere, stored}
+use Rattle.model.specs.PlanValue.{refusal-number, nowhere, somewhere, stored}
 use Rattle.model.specs.declared.Plan.{Plan}
 use Rattle.model.specs.declared.PlanRecord.{PlanRecord}
+use Rattle.record.specs.declared.BodyLength.{BodyLength}
 use Rattle.record.specs.declared.NextRecord.{NextRecord}
 use Rattle.record.specs.declared.Checked.{Checked}
+
+-- the length that the table of kinds has
+abbrev pub body-told : BodyLength → Option ℕ
+body-told (BodyLength.Bytes n) = some n
+body-told BodyLength.Unknown = none
 
 -- a record's kind and body
 abbrev pub record-of : ℕ → List ℕ → PlanRecord
@@ -65,42 +72,36 @@ abbrev pub toldCheck : Checked → ℕ
 toldCheck Checked.Passed = 0
 toldCheck (Checked.Refused why) = refusal-number why
 
--- what the value says of the records before
-abbrev pub listed-site : Plan → ℕ → Bool
-listed-site p s = not (eqb (getD (p .threads) s 0) 0)
+-- what the value's arrays say of the records before
+abbrev pub listed-site : List ℕ → ℕ → Bool
+listed-site threads s = not (eqb (getD threads s 0) 0)
 
-abbrev pub listed-node : Plan → ℕ → Bool
-listed-node p n = ltb (getD (p .places) n nowhere) sites
+abbrev pub listed-node : List ℕ → ℕ → Bool
+listed-node places n = somewhere (getD places n nowhere)
 
 -- the checks on a record of each kind
 abbrev pub site-fault : ℕ → ℕ → ℕ
 site-fault s t = first-fault ((ltb s sites && (ltb 0 t && leb t most-threads), 4) ∷ [])
 
-abbrev pub node-fault : Plan → ℕ → ℕ → ℕ → ℕ
-node-fault p n s l = first-fault ((ltb n nodes, 4) ∷ (listed-site p s, 5) ∷ (ltb l (getD (p .threads) s 0), 6) ∷ [])
+abbrev pub node-fault : List ℕ → ℕ → ℕ → ℕ → ℕ
+node-fault threads n s l = first-fault ((ltb n nodes, 4) ∷ (listed-site threads s, 5) ∷ (ltb l (getD threads s 0), 6) ∷ [])
 
-abbrev pub edge-fault : Plan → ℕ → ℕ → ℕ
-edge-fault p c d = first-fault ((listed-node p c && listed-node p d, 5) ∷ (ltb (p .edges) most-edges, 9) ∷ [])
+abbrev pub edge-fault : List ℕ → ℕ → ℕ → ℕ → ℕ
+edge-fault places edges c d = first-fault ((listed-node places c && listed-node places d, 5) ∷ (ltb edges most-edges, 9) ∷ [])
 
-abbrev pub fault-of : Plan → PlanRecord → ℕ
-fault-of p (PlanRecord.Site s t) = site-fault (s .0) t
-fault-of p (PlanRecord.Node n s l) = node-fault p (n .0) (s .0) (l .0)
-fault-of p (PlanRecord.Edge c d) = edge-fault p (c .0) (d .0)
-fault-of p PlanRecord.End = 0
+abbrev pub kind-fault : List ℕ → List ℕ → ℕ → PlanRecord → ℕ
+kind-fault threads places edges (PlanRecord.Site s t) = site-fault (s .0) t
+kind-fault threads places edges (PlanRecord.Node n s l) = node-fault threads (n .0) (s .0) (l .0)
+kind-fault threads places edges (PlanRecord.Edge c d) = edge-fault places edges (c .0) (d .0)
+kind-fault threads places edges PlanRecord.End = 0
 
-abbrev pub fault-in : Plan → PlanRecord → PlanRecord → ℕ
-fault-in p last r = cond (follows-last last r) (fault-of p r) 3
+-- and before them that it follows the last one
+abbrev pub value-fault : List ℕ → List ℕ → ℕ → PlanRecord → PlanRecord → ℕ
+value-fault threads places edges last r = cond (follows-last last r) (kind-fault threads places edges r) 3
 
--- the plan with one record more
+-- the plan with one record more; a record that has no place in the value leaves it as it was
 abbrev pub stored-in : Plan → PlanRecord → Plan
-stored-in p (PlanRecord.Site s t) = stored p (site (s .0) t)
-stored-in p (PlanRecord.Node n s l) = stored p (node (n .0) (s .0) (l .0))
-stored-in p (PlanRecord.Edge c d) = stored p (edge (c .0) (d .0))
+stored-in p (PlanRecord.Site s t) = cond (ltb (s .0) sites) (stored p (site (s .0) t)) p
+stored-in p (PlanRecord.Node n s l) = cond (ltb (n .0) nodes) (stored p (node (n .0) (s .0) (l .0))) p
+stored-in p (PlanRecord.Edge c d) = cond (ltb (p .edges) most-edges) (stored p (edge (c .0) (d .0))) p
 stored-in p PlanRecord.End = p
-
--- a record that has a place in the value
-abbrev pub Storable : Plan → PlanRecord → Type 0
-Storable p (PlanRecord.Site s t) = s .0 < sites
-Storable p (PlanRecord.Node n s l) = n .0 < nodes
-Storable p (PlanRecord.Edge c d) = p .edges < most-edges
-Storable p PlanRecord.End = Unit {0}

@@ -11,7 +11,6 @@ use ids::Ticket;
 use model::AdmissionAnswer;
 use model::LevelAnswer;
 use model::Plan;
-use model::PlanRefusal;
 use model::ReadAnswer;
 use model::RoomAnswer;
 use record::Checked;
@@ -112,20 +111,6 @@ fn show_room(threads: u8, active: &[u8], level: u8) {
     say(b"\n");
 }
 
-fn number_of(why: PlanRefusal) -> u64 {
-    match why {
-        PlanRefusal::InputEnds => 1,
-        PlanRefusal::UnknownKind => 2,
-        PlanRefusal::NotRising => 3,
-        PlanRefusal::OutOfRange => 4,
-        PlanRefusal::NotListed => 5,
-        PlanRefusal::LevelTooHigh => 6,
-        PlanRefusal::Loop => 7,
-        PlanRefusal::SelfDependence => 8,
-        PlanRefusal::TooManyEdges => 9,
-    }
-}
-
 // Two sites of 2 threads; nodes 0 at site 0, 1 and 2 at site 1, 3 at site 0; edges 0 to 1 and 2 to 3; all levels 0 but that of node 2.
 fn two_sites(level: u8) -> Plan {
     let mut plan = record::empty();
@@ -158,10 +143,10 @@ fn one_node(level: u8) -> Plan {
 
 // The refusal's number, or 0.
 fn fault(plan: Plan) -> u64 {
-    let checked = check(plan);
+    let checked = check(plan).checked;
     match checked {
         Checked::Passed => 0,
-        Checked::Refused(why) => number_of(why),
+        Checked::Refused(why) => plan::refusal_number(why) as u64,
     }
 }
 
@@ -178,7 +163,7 @@ fn show_read(words: &[u8], bytes: &[u8]) {
     match answer {
         ReadAnswer::Accepted(used) => say_item(b": accepted, bytes ", used as u64),
         ReadAnswer::Refused(why, offset) => {
-            say_item(b": refused ", number_of(why));
+            say_item(b": refused ", plan::refusal_number(why) as u64);
             say_item(b" at ", offset as u64);
         }
     }

@@ -1,90 +1,69 @@
--- `audit::check` meets its contract: the count of edges, the records taken up, and checks 7 and 8 are asked in the order of the plan's first fault.
--- Assumes nothing.
-use native.Mathlib.Omega.{arith}
-use mathlib.Core.Path.{_≡_, sym, ap, _∙_}
+-- `audit::check` meets its contract: the count of edges, the records taken up, and the checks of the end record are asked in the order of the
+-- plan's first fault. Assumes nothing.
+use mathlib.Core.Path.{_≡_, sym, ap, subst, _∙_}
 use borrow.Author.Needs.{needs}
-use Rattle.model.specs.Plan.{loops, self-depends}
+use Rattle.model.specs.Plan.{six}
 use Rattle.model.specs.PlanValue.{records-of}
 use Rattle.model.specs.PlanFault.{records-fault}
-use Rattle.model.proofs.PlanFaultLaws.{records-fault-none}
+use Rattle.model.specs.declared.PlanRefusal.{PlanRefusal}
+use Rattle.model.proofs.RefusalLaws.{refusal-named}
 use Rattle.record.specs.Step.{toldCheck}
-use Rattle.cycles.proofs.WithinLaws.{loops-told, self-depends-told}
-use Rattle.audit.proofs.TakenLaws.{real}
-use Rattle.audit.proofs.CheckLaws.{too-many, record-found, loop-found, dependence-found, none-found}
+use Rattle.record.specs.Whole.{WholeFault}
+use Rattle.audit.proofs.CheckLaws.{refused-audits, too-many, record-found, end-found, passed-audits}
 use Rattle.audit.proofs.check.Statement.{statement}
 use Rattle.audit.proofs.check.Tie as tie
 
 returns : tie.Need-returns
-returns c = too-many (c .before .before .args .plan) (omega arith)
-
-take-records-requires : tie.Need-take-records-requires
-take-records-requires c κs = search needs
-
-enum-told : tie.Need-enum-told
-enum-told c = search needs
+returns c = refused-audits PlanRefusal.TooManyEdges (c .refused .ensures) (too-many (c .before .before .before .args .plan) (c .before .if1 .taken))
 
 returns-2 : tie.Need-returns-2
 returns-2 c =
-    record-found (c .before .before .before .before .before .args .plan) (omega arith) _
-    (c .before .before .take-records .ensures .fault-is)
-    (real (c .enum-told .given .1))
+    let why = c .before .before .checked .given in
+    let taken = c .before .before .before .before in
+    refused-audits (why .0 .0) (c .refused2 .ensures)
+    (record-found (taken .before .before .before .args .plan) (taken .before .if1 .left) _
+    (sym (ap toldCheck (why .1)) ∙ taken .take-records .ensures .fault-is)
+    (refusal-named (why .0 .0) .1))
 
-enum-told-2 : tie.Need-enum-told-2
-enum-told-2 c = search needs
+-- the records have no fault
+abbrev at-taken : tie.After-check-end → tie.After-take-records
+at-taken c = c .before .before .before .before
 
--- behind the records
-no-fault : (c : tie.After-enum-told2) → records-fault (records-of (c .before .before .before .before .before .args .plan)) ≡ 0
-no-fault c = sym (c .before .before .take-records .ensures .fault-is) ∙ ap toldCheck (c .enum-told2 .given .1)
-
-loops-requires : tie.Need-loops-requires
-loops-requires c κs = search needs
-
--- check 7 is answered, and check 8
-seven : (c : tie.After-loops) → c .loops .result ≡ loops (records-of (c .before .before .before .before .before .before .args .plan))
-seven c =
-    let rs = records-of (c .before .before .before .before .before .before .args .plan) in
-    loops-told rs (records-fault-none rs .0 (no-fault (c .before))) _ (c .loops .ensures)
+no-fault : (c : tie.After-check-end) → records-fault six (records-of (at-taken c .before .before .before .args .plan)) ≡ 0
+no-fault c = sym (at-taken c .take-records .ensures .fault-is) ∙ ap toldCheck (c .before .before .enum-told .given .1)
 
 returns-3 : tie.Need-returns-3
 returns-3 c =
-    loop-found (c .before .before .before .before .before .before .before .args .plan) (omega arith)
-    (no-fault (c .before .before))
-    (sym (seven (c .before)) ∙ c .if2 .taken)
-
-self-depends-requires : tie.Need-self-depends-requires
-self-depends-requires c κs = search needs
-
-eight : (c : tie.After-self-depends)
-    → c .self-depends .result ≡ self-depends (records-of (c .before .before .before .before .before .before .before .before .args .plan))
-eight c =
-    let rs = records-of (c .before .before .before .before .before .before .before .before .args .plan) in
-    self-depends-told rs (records-fault-none rs .0 (no-fault (c .before .before .before))) _ (c .self-depends .ensures)
+    let why = c .before .before .ended .given in
+    let check = c .before .before .before .before in
+    let taken = at-taken check in
+    refused-audits (why .0 .0) (c .refused3 .ensures)
+    (end-found (taken .before .before .before .args .plan) (taken .before .if1 .left) (no-fault check) _
+    (taken .take-records .ensures .held (no-fault check) .0)
+    (subst (WholeFault _) (ap toldCheck (why .1)) (check .check-end .ensures)))
 
 returns-4 : tie.Need-returns-4
 returns-4 c =
-    dependence-found (c .before .before .before .before .before .before .before .before .before .args .plan) (omega arith)
-    (no-fault (c .before .before .before .before))
-    (sym (seven (c .before .before .before)) ∙ c .before .before .if2 .left)
-    (sym (eight (c .before)) ∙ c .if3 .taken)
-
-returns-5 : tie.Need-returns-5
-returns-5 c =
-    none-found (c .before .before .before .before .before .before .before .before .before .args .plan) (omega arith)
-    (no-fault (c .before .before .before .before))
-    (sym (seven (c .before .before .before)) ∙ c .before .before .if2 .left)
-    (sym (eight (c .before)) ∙ c .if3 .left)
+    let check = c .before .before in
+    let taken = at-taken check in
+    passed-audits (taken .before .before .before .args .plan) (taken .before .if1 .left) (no-fault check) _
+    (taken .take-records .ensures .held (no-fault check) .0)
+    (check .check-end .result) (ap toldCheck (c .enum-told2 .given .1)) (check .check-end .ensures)
 
 pub check-spec : {M : Type 1} → statement M
 check-spec =
     tie.close
     (tie.spec
+    (λ c κs. search needs)
     returns
-    take-records-requires
-    enum-told
+    (λ c κs. search needs)
+    (λ c. search needs)
+    (λ c κs. search needs)
     returns-2
-    enum-told-2
-    loops-requires
+    (λ c. search needs)
+    (λ c κs. search needs)
+    (λ c. search needs)
+    (λ c κs. search needs)
     returns-3
-    self-depends-requires
-    returns-4
-    returns-5)
+    (λ c. search needs)
+    returns-4)

@@ -18,32 +18,8 @@ Inv-loop plan audit₀ n₀ audit n = Taken (nodes-to plan n) audit × (n ≤ no
 abbrev μ-loop : tie.MeasureT-loop
 μ-loop plan audit₀ n₀ audit n = nodes - n
 
-take-sites-requires : tie.Need-take-sites-requires Inv-loop μ-loop
-take-sites-requires c κs = tt
-
 loop-holds : tie.Need-loop-holds Inv-loop μ-loop
 loop-holds c = (nodes-start (c .before .args .t1) _ (c .take-sites .ensures), omega arith)
-
-element-copy-out-place : tie.Need-element-copy-out-place Inv-loop μ-loop
-element-copy-out-place c = omega arith
-
-cast-if1 : tie.Need-cast-if1 Inv-loop μ-loop
-cast-if1 c = search needs
-
-element-copy-out-level : tie.Need-element-copy-out-level Inv-loop μ-loop
-element-copy-out-level c = omega arith
-
-cast-t15 : tie.Need-cast-t15 Inv-loop μ-loop
-cast-t15 c = omega arith
-
-take-requires : tie.Need-take-requires Inv-loop μ-loop
-take-requires c κs = tt
-
-add-n : tie.Need-add-n Inv-loop μ-loop
-add-n c = omega arith
-
-loop-less : tie.Need-loop-less Inv-loop μ-loop
-loop-less c = omega arith
 
 long : (c : tie.Start Inv-loop μ-loop) → length (c .args .t1 .places) ≡ nodes
 long c = search needs
@@ -54,7 +30,7 @@ loop-again c =
     let plan = at-loop .before .before .args .t1 in
     let inside : at-loop .loop .n < length (plan .places) = omega (arith, long (at-loop .before .before)) in (
       ⊎-elim
-          (λ w. node-more plan (at-loop .loop .n) inside (at-loop .loop .inv .0) _ (omega arith) (w .2 .ensures) (w .3))
+          (λ w. node-more plan (at-loop .loop .n) inside (at-loop .loop .inv .0) _ (λ e. omega arith) (w .2 .ensures) (w .3))
           (λ w. node-none plan (at-loop .loop .n) inside (at-loop .loop .inv .0) (omega arith) (w .1))
           (c .if1 .came),
       omega (arith, at-loop),
@@ -71,14 +47,13 @@ take-nodes-spec =
     (tie.spec
     Inv-loop
     μ-loop
-    take-sites-requires
+    (λ c κs. tt)
     loop-holds
-    element-copy-out-place
-    cast-if1
-    element-copy-out-level
-    cast-t15
-    take-requires
-    add-n
-    loop-less
+    (λ c. omega arith)
+    (λ c. omega arith)
+    (λ c. omega arith)
+    (λ c κs. tt)
+    (λ c. omega arith)
+    (λ c. omega arith)
     loop-again
     returns)

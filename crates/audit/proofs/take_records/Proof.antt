@@ -13,26 +13,8 @@ Inv-loop plan audit₀ i₀ i-end audit i = Taken (edges-to plan i) audit × (i 
 abbrev μ-loop : tie.MeasureT-loop
 μ-loop plan audit₀ i₀ i-end audit i = plan .edges - i
 
-take-nodes-requires : tie.Need-take-nodes-requires Inv-loop μ-loop
-take-nodes-requires c κs = tt
-
 loop-holds : tie.Need-loop-holds Inv-loop μ-loop
 loop-holds c = (edges-start (c .before .args .t1) _ (c .take-nodes .ensures), omega arith)
-
-element-copy-out-caller : tie.Need-element-copy-out-caller Inv-loop μ-loop
-element-copy-out-caller c = omega arith
-
-element-copy-out-callee : tie.Need-element-copy-out-callee Inv-loop μ-loop
-element-copy-out-callee c = omega arith
-
-take-requires : tie.Need-take-requires Inv-loop μ-loop
-take-requires c κs = tt
-
-add-i : tie.Need-add-i Inv-loop μ-loop
-add-i c = omega arith
-
-loop-less : tie.Need-loop-less Inv-loop μ-loop
-loop-less c = omega arith
 
 loop-again : tie.Need-loop-again Inv-loop μ-loop
 loop-again c =
@@ -50,12 +32,12 @@ take-records-spec =
     (tie.spec
     Inv-loop
     μ-loop
-    take-nodes-requires
+    (λ c κs. tt)
     loop-holds
-    element-copy-out-caller
-    element-copy-out-callee
-    take-requires
-    add-i
-    loop-less
+    (λ c. omega arith)
+    (λ c. omega arith)
+    (λ c κs. tt)
+    (λ c. omega arith)
+    (λ c. omega arith)
     loop-again
     returns)

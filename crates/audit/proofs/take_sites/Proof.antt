@@ -6,7 +6,7 @@ use mathlib.Core.Logic.{⊎-elim}
 use native.Mathlib.Omega.{arith}
 use Rattle.ids.specs.Limits.{sites}
 use Rattle.audit.specs.Taken.{Taken, sites-to}
-use Rattle.audit.proofs.TakenLaws.{start, sites-start, site-more, site-none}
+use Rattle.audit.proofs.TakenLaws.{none-taken, sites-start, site-more, site-none}
 use Rattle.audit.proofs.take_sites.Statement.{statement}
 use Rattle.audit.proofs.take_sites.Tie as tie
 
@@ -16,26 +16,8 @@ Inv-loop plan audit₀ s₀ audit s = Taken (sites-to plan s) audit × (s ≤ si
 abbrev μ-loop : tie.MeasureT-loop
 μ-loop plan audit₀ s₀ audit s = sites - s
 
-empty-requires : tie.Need-empty-requires Inv-loop μ-loop
-empty-requires c κs = tt
-
 loop-holds : tie.Need-loop-holds Inv-loop μ-loop
-loop-holds c = (sites-start (c .before .args .t1) _ (start _ (c .empty .ensures)), omega arith)
-
-element-copy-out-threads : tie.Need-element-copy-out-threads Inv-loop μ-loop
-element-copy-out-threads c = omega arith
-
-cast-t13 : tie.Need-cast-t13 Inv-loop μ-loop
-cast-t13 c = omega arith
-
-take-requires : tie.Need-take-requires Inv-loop μ-loop
-take-requires c κs = tt
-
-add-s : tie.Need-add-s Inv-loop μ-loop
-add-s c = omega arith
-
-loop-less : tie.Need-loop-less Inv-loop μ-loop
-loop-less c = omega arith
+loop-holds c = (sites-start (c .before .args .t1) _ (none-taken _ (c .empty .ensures)), omega arith)
 
 loop-again : tie.Need-loop-again Inv-loop μ-loop
 loop-again c =
@@ -59,12 +41,12 @@ take-sites-spec =
     (tie.spec
     Inv-loop
     μ-loop
-    empty-requires
+    (λ c κs. tt)
     loop-holds
-    element-copy-out-threads
-    cast-t13
-    take-requires
-    add-s
-    loop-less
+    (λ c. omega arith)
+    (λ c. omega arith)
+    (λ c κs. tt)
+    (λ c. omega arith)
+    (λ c. omega arith)
     loop-again
     returns)

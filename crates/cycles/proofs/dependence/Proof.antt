@@ -4,20 +4,11 @@ use Prim.Native.Nat.{_*_}
 use mathlib.Core.Path.{_≡_}
 use lib.ListN.{length}
 use borrow.Author.Needs.{needs}
-use Rattle.model.proofs.PlanValueLaws.{Sized}
+use Rattle.model.proofs.HeldLaws.{Sized}
 use Rattle.ids.specs.Limits.{nodes}
 use Rattle.cycles.proofs.WithinLaws.{dependence-tables}
 use Rattle.cycles.proofs.dependence.Statement.{statement}
 use Rattle.cycles.proofs.dependence.Tie as tie
-
-call-table-requires : tie.Need-call-table-requires
-call-table-requires c κs = search needs
-
-step-table-requires : tie.Need-step-table-requires
-step-table-requires c κs = search needs
-
-dependence-requires : tie.Need-dependence-requires
-dependence-requires c κs = search needs
 
 returns : tie.Need-returns
 returns c =
@@ -31,5 +22,4 @@ returns c =
     (c .dependence .result .cells) (c .dependence .ensures)
 
 pub dependence-spec : {M : Type 1} → statement M
-dependence-spec =
-    tie.close (tie.spec call-table-requires step-table-requires dependence-requires returns)
+dependence-spec = tie.close (tie.spec (λ c κs. search needs) (λ c κs. search needs) (λ c κs. search needs) returns)

@@ -11,15 +11,6 @@ use Rattle.cycles.proofs.WithinLaws.{loop-tables}
 use Rattle.cycles.proofs.loops.Statement.{statement}
 use Rattle.cycles.proofs.loops.Tie as tie
 
-call-table-requires : tie.Need-call-table-requires
-call-table-requires c κs = search needs
-
-empty-requires : tie.Need-empty-requires
-empty-requires c κs = search needs
-
-circular-requires : tie.Need-circular-requires
-circular-requires c κs = search needs
-
 returns : tie.Need-returns
 returns c =
     let made = c .before .before in
@@ -30,4 +21,4 @@ returns c =
     (loop-tables (edges .result .cells) long (records-of (made .before .args .plan)) (none .result .cells) (edges .ensures) (none .ensures))
 
 pub loops-spec : {M : Type 1} → statement M
-loops-spec = tie.close (tie.spec call-table-requires empty-requires circular-requires returns)
+loops-spec = tie.close (tie.spec (λ c κs. search needs) (λ c κs. search needs) (λ c κs. search needs) returns)

@@ -12,18 +12,6 @@ returns c = let a = c .before .args in mark-row (a .cells .now) (a .from) (a .to
 returns-2 : tie.Need-returns-2
 returns-2 c = let a = c .before .before .args in mark-column (a .cells .now) (a .from) (a .to) (omega arith)
 
-mul-cells : tie.Need-mul-cells
-mul-cells c = search needs
-
-add-cells : tie.Need-add-cells
-add-cells c = search needs
-
-slice-write-cells : tie.Need-slice-write-cells
-slice-write-cells c = search needs
-
-same-length : tie.Need-same-length
-same-length c = search needs
-
 returns-3 : tie.Need-returns-3
 returns-3 c =
     let a = c .before .before .args in
@@ -32,4 +20,11 @@ returns-3 c =
 pub mark-spec : {M : Type 1} → statement M
 mark-spec =
     tie.close
-    (tie.spec returns returns-2 mul-cells add-cells slice-write-cells same-length returns-3)
+    (tie.spec
+    returns
+    returns-2
+    (λ c. search needs)
+    (λ c. search needs)
+    (λ c. search needs)
+    (λ c. search needs)
+    returns-3)

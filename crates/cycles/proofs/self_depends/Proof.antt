@@ -5,20 +5,11 @@ use mathlib.Core.Path.{_≡_}
 use mathlib.Core.Logic.{Iff·trans}
 use lib.ListN.{length}
 use borrow.Author.Needs.{needs}
-use Rattle.model.proofs.PlanValueLaws.{Sized}
+use Rattle.model.proofs.HeldLaws.{Sized}
 use Rattle.ids.specs.Limits.{nodes}
 use Rattle.cycles.proofs.WithinLaws.{circle-tables}
 use Rattle.cycles.proofs.self_depends.Statement.{statement}
 use Rattle.cycles.proofs.self_depends.Tie as tie
-
-call-table-requires : tie.Need-call-table-requires
-call-table-requires c κs = search needs
-
-step-table-requires : tie.Need-step-table-requires
-step-table-requires c κs = search needs
-
-circular-requires : tie.Need-circular-requires
-circular-requires c κs = search needs
 
 returns : tie.Need-returns
 returns c =
@@ -32,5 +23,4 @@ returns c =
     (circle-tables (edges .result .cells) calling plan sized (steps .result .cells) stepping (edges .ensures) (steps .ensures))
 
 pub self-depends-spec : {M : Type 1} → statement M
-self-depends-spec =
-    tie.close (tie.spec call-table-requires step-table-requires circular-requires returns)
+self-depends-spec = tie.close (tie.spec (λ c κs. search needs) (λ c κs. search needs) (λ c κs. search needs) returns)

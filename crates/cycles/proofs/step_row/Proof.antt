@@ -20,34 +20,20 @@ loop-holds c =
     let a = c .before .before .before .args in
     (rowed-none (a .cells .now) (a .n) (steps-in (a .places .now) (a .levels .now) (a .n)), omega arith)
 
-steps-down-requires : tie.Need-steps-down-requires Inv-loop μ-loop
-steps-down-requires c κs = omega arith
-
-cast-cells : tie.Need-cast-cells Inv-loop μ-loop
-cast-cells c = search needs
-
-mul-cells : tie.Need-mul-cells Inv-loop μ-loop
-mul-cells c = omega (arith, c .before .before .before .before .before .before .pre)
-
-add-cells : tie.Need-add-cells Inv-loop μ-loop
-add-cells c = omega (arith, c .before .before .before .before .before .before .pre)
+-- from the loop back to the start
+abbrev at-start : tie.At-loop Inv-loop μ-loop → tie.Start Inv-loop μ-loop
+at-start c = c .before .before .before .before
 
 slice-write-cells : tie.Need-slice-write-cells Inv-loop μ-loop
-slice-write-cells c = omega (arith, c .before .before .before .before .before .before .pre, c .before .before .loop .inv .0 .long)
-
-add-m : tie.Need-add-m Inv-loop μ-loop
-add-m c = omega arith
-
-loop-less : tie.Need-loop-less Inv-loop μ-loop
-loop-less c = omega arith
+slice-write-cells c = let at-loop = c .before .before in omega (arith, at-start at-loop .pre, at-loop .loop .inv .0 .long)
 
 loop-again : tie.Need-loop-again Inv-loop μ-loop
 loop-again c =
-    let on-way = c .before .before .loop in
-    let s = c .before .before .before .before .before .before in
+    let at-loop = c .before .before in
+    let s = at-start at-loop in
     let a = s .args in (
-      rowed-more (a .cells .now) (on-way .cells) (a .n) (steps-in (a .places .now) (a .levels .now) (a .n)) (on-way .m) (s .pre .0) (s .pre .3) (omega arith)
-          (c .steps-down .result) (c .steps-down .ensures) (on-way .inv .0),
+      rowed-more (a .cells .now) (at-loop .loop .cells) (a .n) (steps-in (a .places .now) (a .levels .now) (a .n)) (at-loop .loop .m)
+          (s .pre .table) (s .pre .row-node) (omega arith) (c .steps-down .result) (c .steps-down .ensures) (at-loop .loop .inv .0),
       omega arith,
     )
 
@@ -56,9 +42,11 @@ same-length c = c .before .loop .inv .0 .long
 
 returns : tie.Need-returns Inv-loop μ-loop
 returns c =
-    let a = c .before .before .before .before .before .args in
-    let all : c .before .loop .m ≡ nodes = omega arith in
-    subst (λ (m : ℕ). Rowed (a .cells .now) (c .before .loop .cells) (a .n) (steps-in (a .places .now) (a .levels .now) (a .n)) m) all (c .before .loop .inv .0)
+    let at-loop = c .before in
+    let a = at-start at-loop .args in
+    let all : at-loop .loop .m ≡ nodes = omega arith in
+    subst (λ (m : ℕ). Rowed (a .cells .now) (at-loop .loop .cells) (a .n) (steps-in (a .places .now) (a .levels .now) (a .n)) m) all
+    (at-loop .loop .inv .0)
 
 pub step-row-spec : {M : Type 1} → statement M
 step-row-spec =
@@ -67,13 +55,13 @@ step-row-spec =
     Inv-loop
     μ-loop
     loop-holds
-    steps-down-requires
-    cast-cells
-    mul-cells
-    add-cells
+    (λ c κs. omega arith)
+    (λ c. search needs)
+    (λ c. let at-loop = c .before .before in omega (arith, at-start at-loop .pre))
+    (λ c. let at-loop = c .before .before in omega (arith, at-start at-loop .pre))
     slice-write-cells
-    add-m
-    loop-less
+    (λ c. omega arith)
+    (λ c. omega arith)
     loop-again
     same-length
     returns)

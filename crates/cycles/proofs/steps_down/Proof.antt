@@ -1,47 +1,30 @@
 -- `cycles::steps_down` meets its contract: the tests on the way are those of the definition. Assumes nothing.
-use native.Mathlib.Omega.{arith}
-use borrow.Author.Tests.{lt-ltb, le-ltb, eq-eqb, ne-eqb}
+use borrow.Author.Tests.{eq-eqb, ne-eqb}
 use Rattle.cycles.specs.Within.{steps-in}
 use borrow.Author.Needs.{needs}
 use Rattle.cycles.proofs.steps_down.Statement.{statement}
 use Rattle.cycles.proofs.steps_down.Tie as tie
 
-shared-slice-read-at : tie.Need-shared-slice-read-at
-shared-slice-read-at c = search needs
-
-cast-if1 : tie.Need-cast-if1
-cast-if1 c = omega (arith, c .shared-slice-known .given (c .before .args .n))
-
 returns : tie.Need-returns
 unfolding steps-in
-returns c = simp (le-ltb _ _ (c .if1 .taken))
-
-shared-slice-read-if2 : tie.Need-shared-slice-read-if2
-shared-slice-read-if2 c = search needs
+returns c = simp (eq-eqb _ _ (c .if1 .taken))
 
 returns-2 : tie.Need-returns-2
 unfolding steps-in
-returns-2 c = simp (lt-ltb _ _ (c .before .before .if1 .left), ne-eqb _ _ (c .if2 .taken))
-
-shared-slice-read-result : tie.Need-shared-slice-read-result
-shared-slice-read-result c = search needs
-
-shared-slice-read-result-2 : tie.Need-shared-slice-read-result-2
-shared-slice-read-result-2 c = search needs
+returns-2 c = simp (ne-eqb _ _ (c .before .before .if1 .left), ne-eqb _ _ (c .if2 .taken))
 
 returns-3 : tie.Need-returns-3
 unfolding steps-in
-returns-3 c = simp (lt-ltb _ _ (c .before .before .before .before .if1 .left), eq-eqb _ _ (c .before .before .if2 .left))
+returns-3 c = simp (ne-eqb _ _ (c .before .before .before .before .if1 .left), eq-eqb _ _ (c .before .before .if2 .left))
 
 pub steps-down-spec : {M : Type 1} → statement M
 steps-down-spec =
     tie.close
     (tie.spec
-    shared-slice-read-at
-    cast-if1
+    (λ c. search needs)
     returns
-    shared-slice-read-if2
+    (λ c. search needs)
     returns-2
-    shared-slice-read-result
-    shared-slice-read-result-2
+    (λ c. search needs)
+    (λ c. search needs)
     returns-3)

@@ -3,35 +3,18 @@ use Prim.Native.Nat.{_-_, _≤_}
 use native.Mathlib.Omega.{arith}
 use borrow.Author.Needs.{needs}
 use mathlib.Core.Logic.{⊎-elim}
+use Rattle.ids.specs.Limits.{nodes}
 use Rattle.depends.proofs.nodes.Statement.{statement}
 use Rattle.depends.proofs.nodes.Tie as tie
 
 abbrev Inv-loop : tie.InvT-loop
-Inv-loop plan count₀ i₀ count i = (i ≤ 64) × (count ≤ i)
+Inv-loop plan count₀ i₀ count i = (i ≤ nodes) × (count ≤ i)
 
 abbrev μ-loop : tie.MeasureT-loop
-μ-loop plan count₀ i₀ count i = 64 - i
-
-loop-holds : tie.Need-loop-holds Inv-loop μ-loop
-loop-holds c = search needs
-
-listed-requires : tie.Need-listed-requires Inv-loop μ-loop
-listed-requires c κs = search needs
-
-add-count : tie.Need-add-count Inv-loop μ-loop
-add-count c = search needs
-
-add-i : tie.Need-add-i Inv-loop μ-loop
-add-i c = search needs
-
-loop-less : tie.Need-loop-less Inv-loop μ-loop
-loop-less c = search needs
+μ-loop plan count₀ i₀ count i = nodes - i
 
 loop-again : tie.Need-loop-again Inv-loop μ-loop
 loop-again c = ⊎-elim (λ w. omega arith) (λ w. omega arith) (c .if1 .came)
-
-returns : tie.Need-returns Inv-loop μ-loop
-returns c = search needs
 
 pub nodes-spec : {M : Type 1} → statement M
 nodes-spec =
@@ -39,10 +22,10 @@ nodes-spec =
     (tie.spec
     Inv-loop
     μ-loop
-    loop-holds
-    listed-requires
-    add-count
-    add-i
-    loop-less
+    (λ c. search needs)
+    (λ c κs. search needs)
+    (λ c. search needs)
+    (λ c. search needs)
+    (λ c. search needs)
     loop-again
-    returns)
+    (λ c. search needs))

@@ -3,35 +3,18 @@ use Prim.Native.Nat.{_-_, _≤_}
 use native.Mathlib.Omega.{arith}
 use borrow.Author.Needs.{needs}
 use mathlib.Core.Logic.{⊎-elim}
+use Rattle.ids.specs.Limits.{sites}
 use Rattle.depends.proofs.sites.Statement.{statement}
 use Rattle.depends.proofs.sites.Tie as tie
 
 abbrev Inv-loop : tie.InvT-loop
-Inv-loop plan count₀ i₀ count i = (i ≤ 16) × (count ≤ i)
+Inv-loop plan count₀ i₀ count i = (i ≤ sites) × (count ≤ i)
 
 abbrev μ-loop : tie.MeasureT-loop
-μ-loop plan count₀ i₀ count i = 16 - i
-
-loop-holds : tie.Need-loop-holds Inv-loop μ-loop
-loop-holds c = search needs
-
-element-copy-out-if1 : tie.Need-element-copy-out-if1 Inv-loop μ-loop
-element-copy-out-if1 c = search needs
-
-add-count : tie.Need-add-count Inv-loop μ-loop
-add-count c = search needs
-
-add-i : tie.Need-add-i Inv-loop μ-loop
-add-i c = search needs
-
-loop-less : tie.Need-loop-less Inv-loop μ-loop
-loop-less c = search needs
+μ-loop plan count₀ i₀ count i = sites - i
 
 loop-again : tie.Need-loop-again Inv-loop μ-loop
 loop-again c = ⊎-elim (λ w. omega arith) (λ w. omega arith) (c .if1 .came)
-
-returns : tie.Need-returns Inv-loop μ-loop
-returns c = search needs
 
 pub sites-spec : {M : Type 1} → statement M
 sites-spec =
@@ -39,10 +22,10 @@ sites-spec =
     (tie.spec
     Inv-loop
     μ-loop
-    loop-holds
-    element-copy-out-if1
-    add-count
-    add-i
-    loop-less
+    (λ c. search needs)
+    (λ c. search needs)
+    (λ c. search needs)
+    (λ c. search needs)
+    (λ c. search needs)
     loop-again
-    returns)
+    (λ c. search needs))

@@ -1,72 +1,70 @@
--- `plan::read` meets its contract: a scan that stopped at the end record is finished, and any other is refused where it stopped, with the empty plan.
+-- `plan::read` meets its contract: a scan that was refused is the reading, and one that reached the end record is finished by the checks there.
 -- Assumes nothing.
+use Prim.Native.Nat.{ℕ}
 use native.Mathlib.Omega.{arith}
-use mathlib.Core.Path.{sym, ap, subst, _∙_}
+use mathlib.Core.Path.{refl, ap, subst}
 use mathlib.Core.List.{List}
 use denote.Ref.{now}
-use lib.Dec.{eqb}
-use Rattle.model.specs.Plan.{Record, end-fault}
-use Rattle.model.specs.Reading.{finish}
-use Rattle.plan.specs.Answers.{Answers, Stops}
-use Rattle.plan.proofs.FinishLaws.{refused-answers}
-use Rattle.plan.proofs.ReadLaws.{within, held, held-passes, held-value, end-read}
+use Rattle.record.specs.Step.{toldCheck}
+use Rattle.record.specs.Whole.{WholeFault}
+use Rattle.plan.proofs.AnswerLaws.{refused-answers, Reached, reached, stops-early, passes-end, fails-end}
 use borrow.Author.Needs.{needs}
 use Rattle.plan.proofs.read.Statement.{statement}
 use Rattle.plan.proofs.read.Tie as tie
 
-scan-requires : tie.Need-scan-requires
-scan-requires c κs = search needs
-
-empty-requires : tie.Need-empty-requires
-empty-requires c κs = search needs
-
-enum-known-stop : tie.Need-enum-known-stop
-enum-known-stop c = search needs
-
-finished-requires : tie.Need-finished-requires
-finished-requires c κs =
-    let bytes = now (c .before .before .before .before .before .before .before .args .bytes) in
-    let plan = c .before .before .before .before .before .scan .result .plan in
-    let stop = c .before .stop .given in
-    let at = stop .0 .0 in
-    let held-at = subst (Stops bytes plan) (stop .1) (c .before .before .before .before .before .scan .ensures) in
-    (held-passes bytes plan at (held-at .0), held-value bytes plan at (held-at .0), omega (arith, within bytes plan at (held-at .0), c .before .before .before .before .before .before .before .good .0))
-
-enum-known-stop-2 : tie.Need-enum-known-stop-2
-enum-known-stop-2 c = search needs
-
-refused-requires : tie.Need-refused-requires
-refused-requires c κs = search needs
+abbrev bytes-at : tie.After-scan → List ℕ
+bytes-at c = now (c .before .before .args .bytes)
 
 returns : tie.Need-returns
 returns c =
-    let bytes = now (c .before .before .before .before .before .before .before .before .args .bytes) in
-    let plan = c .before .before .before .before .before .before .scan .result .plan in
-    let stop = c .before .before .stop .given in
-    let at = stop .0 .0 in
-    let held-at = subst (Stops bytes plan) (stop .1) (c .before .before .before .before .before .before .scan .ensures) in
-    subst (Answers (c .finished .result))
-    (ap (λ (rs : List Record). finish (eqb (end-fault rs) 0) rs at) (held bytes plan at (held-at .0)) ∙ sym (end-read bytes plan at (held-at .0) (held-at .1 .0) (held-at .1 .1)))
-    (c .finished .ensures)
+    let scan = c .before .before in
+    let said = c .enum-told .given in
+    stops-early (bytes-at scan) (scan .scan .result) (said .0 .0) (said .0 .1 .0) (said .1) (scan .scan .ensures)
+
+-- the end record was reached, and its checks were asked
+abbrev at-answer : tie.After-check-end → tie.After-answer
+at-answer c = c .before .before .before .before
+
+there : (c : tie.After-check-end)
+    → let answer = at-answer c in
+    Reached (bytes-at (answer .before .before)) (answer .before .before .scan .result .plan) (answer .answer .given .0 .0)
+there c =
+    let answer = at-answer c in
+    let scan = answer .before .before in
+    reached (bytes-at scan) (scan .scan .result) (answer .answer .given .0 .0) (answer .answer .given .1) (scan .scan .ensures)
+
+sub-refused : tie.Need-sub-refused
+sub-refused c = let w = there (c .before .before .before) .end-byte in omega arith
 
 returns-2 : tie.Need-returns-2
 returns-2 c =
-    let bytes = now (c .before .before .before .before .before .before .before .before .args .bytes) in
-    let plan = c .before .before .before .before .before .before .scan .result .plan in
-    let stop = c .before .before .stop2 .given in
-    let at = stop .0 .1 .0 in
-    let held-at = subst (Stops bytes plan) (stop .1) (c .before .before .before .before .before .before .scan .ensures) in
-    refused-answers (stop .0 .0) at (c .refused .ensures) (c .before .before .before .before .empty .ensures) (sym (held-at .2))
+    let why = c .before .before .checked .given in
+    let check = c .before .before .before .before in
+    let answer = at-answer check in
+    refused-answers (why .0 .0) _ (c .refused .ensures) (check .before .empty .ensures)
+    (fails-end (bytes-at (answer .before .before)) _ _ (there check) (why .0 .0) (subst (WholeFault _) (ap toldCheck (why .1)) (check .check-end .ensures)))
+
+returns-3 : tie.Need-returns-3
+returns-3 c =
+    let check = c .before .before in
+    let answer = at-answer check in
+    let scan = answer .before .before in
+    passes-end (bytes-at scan) _ _ (there check) (scan .scan .result) (answer .answer .given .1) refl
+    (subst (WholeFault _) (ap toldCheck (c .enum-told2 .given .1)) (check .check-end .ensures))
 
 pub read-spec : {M : Type 1} → statement M
 read-spec =
     tie.close
     (tie.spec
-    scan-requires
-    empty-requires
-    enum-known-stop
-    finished-requires
-    enum-known-stop-2
-    refused-requires
+    (λ c κs. search needs)
+    (λ c. search needs)
+    (λ c. search needs)
     returns
-    returns-2)
+    (λ c κs. search needs)
+    (λ c κs. search needs)
+    (λ c. search needs)
+    sub-refused
+    (λ c κs. search needs)
+    returns-2
+    (λ c. search needs)
+    returns-3)

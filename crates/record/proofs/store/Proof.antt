@@ -1,79 +1,64 @@
 -- `record::store` meets its contract: in each arm the record is known, and the stores are those of `stored`. Assumes nothing.
-use Prim.Native.Nat.{_<_}
-use native.Mathlib.Omega.{arith}
-use mathlib.Core.Path.{sym, ap, subst}
-use Rattle.record.specs.Step.{Storable, stored-in}
+use borrow.Author.Tests.{lt-ltb, le-ltb}
+use mathlib.Core.Path.{sym, ap, _∙_}
+use Rattle.record.specs.Step.{stored-in}
 use borrow.Author.Needs.{needs}
 use Rattle.record.proofs.store.Statement.{statement}
 use Rattle.record.proofs.store.Tie as tie
 
-enum-known-next : tie.Need-enum-known-next
-enum-known-next c = search needs
-
-cast-at : tie.Need-cast-at
-cast-at c = search needs
-
-element-write-more : tie.Need-element-write-more
-element-write-more c = subst (Storable (c .before .before .before .before .args .plan)) (c .before .before .next .given .1) (c .before .before .before .before .pre)
-
-enum-known-next-2 : tie.Need-enum-known-next-2
-enum-known-next-2 c = search needs
-
-cast-at-2 : tie.Need-cast-at-2
-cast-at-2 c = search needs
-
-element-write-more-2 : tie.Need-element-write-more-2
-element-write-more-2 c = subst (Storable (c .before .before .before .before .args .plan)) (c .before .before .next2 .given .1) (c .before .before .before .before .pre)
-
-element-write-more-3 : tie.Need-element-write-more-3
-element-write-more-3 c = subst (Storable (c .before .before .before .before .args .plan)) (c .before .before .next2 .given .1) (c .before .before .before .before .pre)
-
-enum-known-next-3 : tie.Need-enum-known-next-3
-enum-known-next-3 c = search needs
-
-element-write-more-4 : tie.Need-element-write-more-4
-element-write-more-4 c = subst (Storable (c .before .before .before .args .plan)) (c .before .next3 .given .1) (c .before .before .before .pre)
-
-element-write-more-5 : tie.Need-element-write-more-5
-element-write-more-5 c = subst (Storable (c .before .before .before .args .plan)) (c .before .next3 .given .1) (c .before .before .before .pre)
-
-add-more : tie.Need-add-more
-add-more c =
-    let h : c .before .before .before .args .plan .edges < 256 = subst (Storable (c .before .before .before .args .plan)) (c .before .next3 .given .1) (c .before .before .before .pre) in
-    omega arith
-
-enum-told : tie.Need-enum-told
-enum-told c = search needs
-
 returns : tie.Need-returns
-returns c = sym (ap (stored-in (c .before .before .before .before .args .plan)) (c .before .before .next .given .1))
+returns c =
+    let known = c .before .before .before in
+    sym (ap (stored-in (known .before .before .args .plan)) (known .next .given .1) ∙ rw (le-ltb _ _ (c .if1 .taken)))
 
 returns-2 : tie.Need-returns-2
-returns-2 c = sym (ap (stored-in (c .before .before .before .before .args .plan)) (c .before .before .next2 .given .1))
+returns-2 c =
+    let known = c .before .before .before in
+    sym (ap (stored-in (known .before .before .args .plan)) (known .next2 .given .1) ∙ rw (le-ltb _ _ (c .if2 .taken)))
 
 returns-3 : tie.Need-returns-3
-returns-3 c = sym (ap (stored-in (c .before .before .before .args .plan)) (c .before .next3 .given .1))
+returns-3 c =
+    let known = c .before .before in
+    sym (ap (stored-in (known .before .before .args .plan)) (known .next3 .given .1) ∙ rw (le-ltb _ _ (c .if3 .taken)))
 
 returns-4 : tie.Need-returns-4
-returns-4 c = search needs
+returns-4 c =
+    let known = c .before .before .before in
+    sym (ap (stored-in (known .before .before .args .plan)) (known .next .given .1) ∙ rw (lt-ltb _ _ (c .if1 .left)))
+
+returns-5 : tie.Need-returns-5
+returns-5 c =
+    let known = c .before .before .before in
+    sym (ap (stored-in (known .before .before .args .plan)) (known .next2 .given .1) ∙ rw (lt-ltb _ _ (c .if2 .left)))
+
+returns-6 : tie.Need-returns-6
+returns-6 c =
+    let known = c .before .before in
+    sym (ap (stored-in (known .before .before .args .plan)) (known .next3 .given .1) ∙ rw (lt-ltb _ _ (c .if3 .left)))
+
+returns-7 : tie.Need-returns-7
+returns-7 c = sym (ap (stored-in (c .before .before .args .plan)) (c .enum-told .given .1))
 
 pub store-spec : {M : Type 1} → statement M
 store-spec =
     tie.close
     (tie.spec
-    enum-known-next
-    cast-at
-    element-write-more
-    enum-known-next-2
-    cast-at-2
-    element-write-more-2
-    element-write-more-3
-    enum-known-next-3
-    element-write-more-4
-    element-write-more-5
-    add-more
-    enum-told
+    (λ c. search needs)
+    (λ c. search needs)
     returns
+    (λ c. search needs)
+    (λ c. search needs)
+    (λ c. search needs)
     returns-2
+    (λ c. search needs)
+    (λ c. search needs)
+    (λ c. search needs)
     returns-3
-    returns-4)
+    (λ c. search needs)
+    (λ c. search needs)
+    (λ c. search needs)
+    (λ c. search needs)
+    returns-4
+    returns-5
+    returns-6
+    returns-7)

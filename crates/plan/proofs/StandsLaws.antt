@@ -22,21 +22,21 @@ as-record (PlanRecord.Edge c d) = some (edge (c .0) (d .0))
 as-record PlanRecord.End = none
 
 -- the bytes at an offset begin with this record, and the next offset is the one behind it
-abbrev pub Taken : List ℕ → ℕ → Option Record → ℕ → Type 0
-Taken tail at none behind = (rest : List ℕ) × (tail ≡ 4 ∷ rest) × (behind ≡ at + 1)
-Taken tail at (some r) behind = (rest : List ℕ) × (tail ≡ bytes-of r ++ rest) × (behind ≡ at + length (bytes-of r))
+abbrev pub Stands : List ℕ → ℕ → Option Record → ℕ → Type 0
+Stands tail at none behind = (rest : List ℕ) × (tail ≡ 4 ∷ rest) × (behind ≡ at + 1)
+Stands tail at (some r) behind = (rest : List ℕ) × (tail ≡ bytes-of r ++ rest) × (behind ≡ at + length (bytes-of r))
 
 module _ (at : ℕ) (nx : PlanRecord) (behind : ℕ) where
   abbrev Found : List ℕ → Type 0
-  Found tail = from-next (next plan-kinds tail) at ≡ NextRecord.Whole nx behind → Taken tail at (as-record nx) behind
+  Found tail = from-next (next plan-kinds tail) at ≡ NextRecord.Whole nx behind → Stands tail at (as-record nx) behind
 
   -- what was found is this record
   found-is : (tail : List ℕ) (r : PlanRecord) (to : ℕ)
-      → Taken tail at (as-record r) to → NextRecord.Whole r to ≡ NextRecord.Whole nx behind → Taken tail at (as-record nx) behind
+      → Stands tail at (as-record r) to → NextRecord.Whole r to ≡ NextRecord.Whole nx behind → Stands tail at (as-record nx) behind
   found-is tail r to t e =
       let p : r ≡ nx = cc in
       let q : to ≡ behind = cc in
-      subst₂ (λ (x : PlanRecord) (b : ℕ). Taken tail at (as-record x) b) p q t
+      subst₂ (λ (x : PlanRecord) (b : ℕ). Stands tail at (as-record x) b) p q t
 
   never : {A : Type 0} → NextRecord.Cut ≡ NextRecord.Whole nx behind → A
   never e = let z : _≡_ {A = ℕ} 0 1 = cc in absurd (omega arith)
@@ -105,6 +105,6 @@ module _ (at : ℕ) (nx : PlanRecord) (behind : ℕ) where
   found [] e = never e
   found (k ∷ bs) e = found-kind k bs e
 
-pub taken : (bytes : List ℕ) (at : ℕ) (nx : PlanRecord) (behind : ℕ)
-    → next-in bytes at ≡ NextRecord.Whole nx behind → Taken (drop at bytes) at (as-record nx) behind
-taken bytes at nx behind e = found at nx behind (drop at bytes) e
+pub stands : (bytes : List ℕ) (at : ℕ) (nx : PlanRecord) (behind : ℕ)
+    → next-in bytes at ≡ NextRecord.Whole nx behind → Stands (drop at bytes) at (as-record nx) behind
+stands bytes at nx behind e = found at nx behind (drop at bytes) e
