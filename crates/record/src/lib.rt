@@ -178,7 +178,7 @@ fn check_node(threads: &[u8], node: Node, site: Site, level: Level) -> Checked
 }
 
 // Whether a node has a record.
-fn has_node(places: &[u8], node: Node) -> bool
+pub fn has_node(places: &[u8], node: Node) -> bool
     ensures { λ r. ⌜ r ≡ listed-node (now (places .entry)) (node .0) ⌝ }
 {
     let at = node.0 as usize;
