@@ -1,0 +1,3 @@
+pub mod PutLaws
+pub mod DigitLaws
+pub mod LineLaws

@@ -1,0 +1,128 @@
+// The text inside a run: items and lines written into a lent buffer, each function answering the place behind what it wrote. An inner crate: `net` and
+// `bench` alone call it, and leave room for what is written.
+ghost use Prim.Native.Nat.{_+_, _≤_, _<_};
+ghost use lib.ListN.{length};
+ghost use Rattle.model.specs.Text.{decimal, spaced};
+ghost use Rattle.text.specs.Put.{Put};
+ghost use Rattle.text.specs.Lines.{pair-text, answer-end, line-text, line2-text, number-room, long-room, answer-room, line-room};
+
+// An answer: a letter, a number, or a refusal's number.
+pub enum Printed {
+    Letter(u8),
+    Number(u16),
+    Refused(u8),
+}
+
+// Two digits.
+fn pair(text: &mut [u8], at: usize, n: u16) -> usize
+    requires { ⌜ (n < 100) × (at + 2 ≤ length (now text)) ⌝ }
+    ensures { λ r. ⌜ Put (now (text .entry)) at (pair-text n) (now (text .exit)) r ⌝ }
+{
+    text[at] = b'0' + (n / 10) as u8;
+    text[at + 1] = b'0' + (n % 10) as u8;
+    at + 2
+}
+
+// A space and a number of up to five digits, straight on: it stands in every line.
+pub fn number(text: &mut [u8], at: usize, n: u16) -> usize
+    requires { ⌜ at + number-room ≤ length (now text) ⌝ }
+    ensures { λ r. ⌜ Put (now (text .entry)) at (spaced n) (now (text .exit)) r ⌝ }
+{
+    text[at] = b' ';
+    if n < 10 {
+        text[at + 1] = b'0' + n as u8;
+        return at + 2;
+    }
+    if n < 100 {
+        return pair(text, at + 1, n);
+    }
+    if n < 1000 {
+        text[at + 1] = b'0' + (n / 100) as u8;
+        return pair(text, at + 2, n % 100);
+    }
+    if n < 10000 {
+        let middle = pair(text, at + 1, n / 100);
+        return pair(text, middle, n % 100);
+    }
+    text[at + 1] = b'0' + (n / 10000) as u8;
+    let middle = pair(text, at + 2, n / 100 % 100);
+    pair(text, middle, n % 100)
+}
+
+// The digits of any number: those of its tenth first, and then the last one.
+fn digits(text: &mut [u8], at: usize, n: usize) -> usize
+    requires { ⌜ at + length (decimal n) ≤ length (now text) ⌝ }
+    ensures { λ r. ⌜ Put (now (text .entry)) at (decimal n) (now (text .exit)) r ⌝ }
+{
+    if n < 10 {
+        text[at] = b'0' + n as u8;
+        return at + 1;
+    }
+    let last = digits(text, at, n / 10);
+    text[last] = b'0' + (n % 10) as u8;
+    last + 1
+}
+
+// A space and any number.
+pub fn long_number(text: &mut [u8], at: usize, n: usize) -> usize
+    requires { ⌜ at + long-room ≤ length (now text) ⌝ }
+    ensures { λ r. ⌜ Put (now (text .entry)) at (spaced n) (now (text .exit)) r ⌝ }
+{
+    text[at] = b' ';
+    digits(text, at + 1, n)
+}
+
+// An answer and the line's end.
+fn answer(text: &mut [u8], at: usize, what: Printed) -> usize
+    requires { ⌜ at + answer-room ≤ length (now text) ⌝ }
+    ensures { λ r. ⌜ Put (now (text .entry)) at (answer-end what) (now (text .exit)) r ⌝ }
+{
+    match what {
+        Printed::Letter(letter) => {
+            text[at] = b' ';
+            text[at + 1] = letter;
+            text[at + 2] = b'\n';
+            at + 3
+        }
+        Printed::Number(n) => {
+            let told = number(text, at, n);
+            text[told] = b'\n';
+            told + 1
+        }
+        Printed::Refused(n) => {
+            text[at] = b' ';
+            text[at + 1] = b'R';
+            let told = number(text, at + 2, n as u16);
+            text[told] = b'\n';
+            told + 1
+        }
+    }
+}
+
+// A command's line with one number: its letter, the number and the answer.
+pub fn line(text: &mut [u8], at: usize, letter: u8, first: u16, what: Printed) -> usize
+    requires { ⌜ at + line-room ≤ length (now text) ⌝ }
+    ensures { λ r. ⌜ Put (now (text .entry)) at (line-text letter first what) (now (text .exit)) r ⌝ }
+{
+    text[at] = letter;
+    let asked = number(text, at + 1, first);
+    answer(text, asked, what)
+}
+
+// The same with two numbers.
+pub fn line2(
+    text: &mut [u8],
+    at: usize,
+    letter: u8,
+    first: u16,
+    second: u16,
+    what: Printed,
+) -> usize
+    requires { ⌜ at + line-room ≤ length (now text) ⌝ }
+    ensures { λ r. ⌜ Put (now (text .entry)) at (line2-text letter first second what) (now (text .exit)) r ⌝ }
+{
+    text[at] = letter;
+    let half = number(text, at + 1, first);
+    let asked = number(text, half, second);
+    answer(text, asked, what)
+}
