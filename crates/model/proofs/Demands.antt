@@ -1,15 +1,17 @@
 -- The customer's demands hold of the definitions, a theorem for each. The third first for every net that keeps the rules under an accepted plan, since
 -- every command keeps them; the empty net is one. Assumes nothing.
-use Prim.Native.Nat.{ℕ}
+use Prim.Native.Nat.{ℕ, _-_, _≤_, _<_}
 use native.Mathlib.Omega.{arith}
 use mathlib.Core.Path.{_≡_, refl, sym, ap, subst, _∙_}
-use mathlib.Core.List.{List}
+use mathlib.Core.List.{List, List·Memᴰ}
+use mathlib.Core.Bool.{false}
 use mathlib.Core.Option.{Option, some}
 use lib.ListN.{length}
+use Rattle.lists.specs.Pick.{count}
 use Rattle.model.specs.Plan.{threads}
 use Rattle.model.specs.Reading.{PlanOk}
 use Rattle.model.specs.PlanValue.{reading-plan}
-use Rattle.model.specs.Net.{Call, Core, empty-net, site-of, lookup, node-of, ticket-of, counts, admissible, opened, closed, waker}
+use Rattle.model.specs.Net.{Call, Core, empty-net, site-of, lookup, node-of, ticket-of, above, counts, admissible, opened, closed, waker}
 use Rattle.model.specs.Command.{Command, start, call, return, ended, fault, Outcome, opening, serving, done, step, run}
 use Rattle.model.specs.NetRules.{Keeps}
 use Rattle.model.specs.Demands.{Demand-1, Opens, by-start, by-call, Demand-2, Safe, Demand-3, Drains}
@@ -19,6 +21,8 @@ use Rattle.model.proofs.CountsLaws.{A-counts}
 use Rattle.model.proofs.SettledLaws.{waits-held}
 use Rattle.model.proofs.OrderLaws.{waker-oldest}
 use Rattle.model.proofs.StepLaws.{accepted-step, refused-step, run-keeps, empty-keeps, run-plan}
+use Rattle.model.proofs.GivenLaws.{from-table}
+use Rattle.model.proofs.RefusalRows.{refused-exactly, accepted-exactly-when}
 use Rattle.model.proofs.FreeLaws.{somebody-free, free-returns}
 use Rattle.model.proofs.TallyLaws.{drains}
 
@@ -30,7 +34,7 @@ demand-1 =
       refused-plan = λ bytes number offset e. ap reading-plan e;
       refused-command = λ net command apart.
           let e = refused-step net command apart in
-          (ap (λ (o : Outcome). o .core) e, ap (λ (o : Outcome). o .answer) e);
+          (ap (λ (o : Outcome). o .core) e, ap (λ (o : Outcome). o .answer) e, from-table net command apart);
     }
 
 -- Demand 2
@@ -55,6 +59,8 @@ unfolding opening opened serving admissible
 demand-2 =
     record {
       plans = accepted-exactly;
+      accepted-when = accepted-exactly-when;
+      refused-when = refused-exactly;
       opening-answer = λ net command parent ticket node o e. ap (λ (r : Outcome). r .answer) (opens-step net command parent ticket node o e);
       opening-state = λ net command parent ticket node o e. ap (λ (r : Outcome). r .core) (opens-step net command parent ticket node o e);
       return-answer = λ net ticket gone found e.
@@ -65,25 +71,28 @@ demand-2 =
 
 -- Demand 3
 
-module _ (net : Core) (k : Keeps net) (ok : PlanOk (net .plan)) where
+module _ (net : Core) (k : Keeps net) where
+  -- the first two parts hold under any plan, accepted or not
+  pub keeps-few : (s j : ℕ) → j < threads (net .plan) s → count (above (net .plan) s j) (net .calls) ≤ threads (net .plan) s - j
+  keeps-few s j h =
+      omega (arith, lawful-at (threads (net .plan) s) (counts (net .plan) (net .calls) s) (k .sites-lawful s) j h,
+      A-counts (net .plan) s (k .plan-passes) (net .calls) j)
+
+  pub keeps-settled : (c : Call) → List·Memᴰ c (net .calls) → c .active ≡ false → admissible (net .plan) (net .calls) (c .node) ≡ false
+  keeps-settled c m w = waits-held (net .plan) (net .calls) c (k .settled c m) w
+
   free-ended : (d : Call) → fault net (return (d .ticket)) ≡ 0 → (t : ℕ) × (step net (return (d .ticket)) .answer ≡ ended t)
   unfolding serving
-  free-ended d e = (
-    ticket-of (waker (net .plan) (closed (net .calls) (d .ticket)) (site-of (net .plan) (node-of (lookup (net .calls) (d .ticket))))),
-    ap (λ (r : Outcome). r .answer) (accepted-step net (return (d .ticket)) e),
-  )
+  free-ended d e =
+      (ticket-of (waker (net .plan) (closed (net .calls) (d .ticket)) (site-of (net .plan) (node-of (lookup (net .calls) (d .ticket))))),
+      ap (λ (r : Outcome). r .answer) (accepted-step net (return (d .ticket)) e))
 
   -- every net that keeps the rules under an accepted plan is safe
-  pub keeps-safe : Safe net
-  keeps-safe =
+  pub keeps-safe : PlanOk (net .plan) → Safe net
+  keeps-safe ok =
       record {
-        never-too-many = λ s j h.
-            omega (
-              arith,
-              lawful-at (threads (net .plan) s) (counts (net .plan) (net .calls) s) (k .sites-lawful s) j h,
-              A-counts (net .plan) s (k .plan-passes) (net .calls) j,
-            );
-        nobody-could-go = λ c m w. waits-held (net .plan) (net .calls) c (k .settled c m) w;
+        never-too-many = keeps-few;
+        nobody-could-go = keeps-settled;
         somebody-free = λ c m.
             let free = somebody-free net k ok c m in
             (free .who, free .among, free .runs, free .childless, free-ended (free .who) (free-returns net k free));

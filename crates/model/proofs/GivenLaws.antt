@@ -1,12 +1,13 @@
 -- When each number of the commands' table is given: its test fails and every test before it passes, and the tests stand in document 01's order.
 -- From the law of lists of tests, computed once a command. Assumes nothing.
 use Prim.Native.Nat.{ℕ}
-use mathlib.Core.Path.{_≡_, refl}
+use mathlib.Core.Path.{_≡_, refl, subst}
 use mathlib.Core.Logic.{_↔_}
-use mathlib.Core.Bool.{Bool, true}
-use mathlib.Core.List.{map, List·Memᴰ}
+use mathlib.Core.Bool.{Bool, true, false, cond}
+use mathlib.Core.List.{List, [], _∷_, map, List·Memᴰ, List·Memᴰ·head, List·Memᴰ·tail}
 use Rattle.lists.specs.Pick.{all}
 use Rattle.lists.proofs.PickLaws.{all-at}
+use Rattle.model.specs.Plan.{first-fault}
 use Rattle.model.specs.Faults.{Given}
 use Rattle.model.specs.Net.{Core}
 use Rattle.model.specs.Command.{Command, start, call, return, tests, order, fault}
@@ -37,3 +38,18 @@ accepted-when net c = first-fault-is 0 (tests net c) (no-zero c)
     no-zero (start ticket node) = refl
     no-zero (call parent ticket node) = refl
     no-zero (return ticket) = refl
+
+-- "gives the number from the table": no other number is given
+first-among : (ts : List (Bool × ℕ)) → (first-fault ts ≡ 0 → ⊥) → List·Memᴰ (first-fault ts) (map (λ (t : Bool × ℕ). t .1) ts)
+first-among [] h = absurd (h refl)
+first-among (t ∷ ts) h = go (t .0) h (first-among ts)
+  where
+    go : (b : Bool) → (cond b (first-fault ts) (t .1) ≡ 0 → ⊥)
+        → ((first-fault ts ≡ 0 → ⊥) → List·Memᴰ (first-fault ts) (map (λ (u : Bool × ℕ). u .1) ts))
+        → List·Memᴰ (cond b (first-fault ts) (t .1)) (t .1 ∷ map (λ (u : Bool × ℕ). u .1) ts)
+    go true g rest = List·Memᴰ·tail (rest g)
+    go false g rest = List·Memᴰ·head refl
+
+pub from-table : (net : Core) (c : Command) → (fault net c ≡ 0 → ⊥) → List·Memᴰ (fault net c) (order c)
+unfolding fault
+from-table net c h = subst (List·Memᴰ (fault net c)) (in-order net c) (first-among (tests net c) h)

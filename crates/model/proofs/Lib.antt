@@ -33,4 +33,5 @@ pub mod TextLaws
 pub mod SameLaws
 pub mod Useless
 pub mod GivenLaws
+pub mod RefusalRows
 pub mod Demands

@@ -5,12 +5,12 @@ use native.Mathlib.Omega.{arith}
 use mathlib.Core.Path.{_≡_, refl, sym, ap, ap₂, subst}
 use mathlib.Core.Logic.{_↔_, ⊎-elim}
 use mathlib.Core.Bool.{Bool, true, false, not, _&&_}
-use mathlib.Core.List.{List, [], _∷_}
+use mathlib.Core.List.{List, [], _∷_, List·Memᴰ}
 use lib.ListN.{length}
 use lib.Dec.{eqb}
 use borrow.Author.Tests.{leb-true, le-leb, eqb-true, eq-eqb, ne-eqb}
 use Rattle.ids.specs.Limits.{sites, no-ticket, most-open}
-use Rattle.lists.specs.Pick.{count}
+use Rattle.lists.specs.Pick.{count, all}
 use Rattle.lists.proofs.CountLaws.{never-both, and-left, and-right, and-both, every-at, every-all, lt-or-ge}
 use Rattle.lists.proofs.PickLaws.{all-at, all-each, count-none, count-some, some-counted}
 use Rattle.model.specs.Site.{lawful}
@@ -19,7 +19,7 @@ use Rattle.model.specs.Faults.{Given}
 use Rattle.model.specs.Net.{Call, Core, has-node, has, counts}
 use Rattle.model.specs.NetRules.{Book, parent-kept, could-go, NetRules, same-list, own-ticket, some-ticket, tickets-kept, book-kept, all-lawful, rule-tests, broken-rule}
 use Rattle.model.proofs.SiteLaws.{lawful-all}
-use Rattle.model.proofs.TestLaws.{first-fault-is}
+use Rattle.model.proofs.TestLaws.{lone, first-fault-is}
 use Rattle.model.proofs.RecordLaws.{threads-listed, passes-ok}
 
 pub same-list-is : (xs ys : List ℕ) → same-list xs ys ≡ true → xs ≡ ys
@@ -154,3 +154,8 @@ module _ (net : Core) (book : Book) where
   unfolding broken-rule rule-tests
   rules-exactly =
       let w = first-fault-is 0 (rule-tests net book) refl in ((λ e. rules-from (w .0 e)), (λ k. w .1 (rules-into k)))
+
+  -- and the number is that of the first rule that is broken
+  pub broken-first : (n : ℕ) → List·Memᴰ n (9 ∷ 1 ∷ 2 ∷ 3 ∷ 4 ∷ 5 ∷ 6 ∷ 7 ∷ []) → (broken-rule net book ≡ n) ↔ Given n (rule-tests net book)
+  unfolding broken-rule rule-tests all
+  broken-first n m = first-fault-is n (rule-tests net book) (all-at (λ j. lone j (rule-tests net book)) (9 ∷ 1 ∷ 2 ∷ 3 ∷ 4 ∷ 5 ∷ 6 ∷ 7 ∷ []) refl n m)

@@ -7,13 +7,16 @@ use mathlib.Core.Bool.{true, false, cond}
 use mathlib.Core.List.{List, [], _∷_, _++_, List·Memᴰ}
 use mathlib.Core.Option.{some}
 use lib.ListN.{length}
+use Rattle.ids.specs.Limits.{no-ticket}
 use Rattle.lists.specs.Pick.{count, found}
 use Rattle.model.specs.Site.{may-admit}
 use Rattle.model.specs.Plan.{Record, threads, encode}
 use Rattle.model.specs.Reading.{accepted, refused as not-read, read, PlanOk}
 use Rattle.model.specs.PlanValue.{empty-plan, reading-plan}
 use Rattle.model.specs.Net.{Call, Core, empty-net, site-of, level-of, lookup, ticket-of, has-child, above, counts, waiting-order, admissible, newcomer, closed, woken}
-use Rattle.model.specs.Command.{Command, start, call, return, refused, active, waiting, ended, fault, step, run}
+use Rattle.model.specs.Command.{Command, start, call, return, refused, active, waiting, ended, order, fault, step, run}
+use Rattle.model.specs.NetRules.{Keeps}
+use Rattle.model.specs.Refusals.{rows, First}
 use Rattle.model.specs.Tally.{AllAccepted, all-returns}
 
 -- 1. "Every input gets an answer and every run ends .. No caller checks first": the definitions answer everything, and so does the code that is proved
@@ -24,20 +27,24 @@ pub record Demand-1 : Type 0 where
   pub refused-plan : (bytes : List ℕ) (number offset : ℕ) → read bytes ≡ not-read number offset → reading-plan (read bytes) ≡ empty-plan
   -- "a refused command changes nothing and gives the number from the table"
   pub refused-command : (net : Core) (command : Command) → (fault net command ≡ 0 → ⊥)
-      → (step net command .core ≡ net) × (step net command .answer ≡ refused (fault net command))
+      → (step net command .core ≡ net) × (step net command .answer ≡ refused (fault net command)) × List·Memᴰ (fault net command) (order command)
 
 -- 2
 
 -- the call that a start or a call opens: its parent, or no ticket, its ticket and its node
 pub data Opens : Command → ℕ → ℕ → ℕ → Type 0 where
-  by-start : {ticket node : ℕ} → Opens (start ticket node) 0 ticket node
+  by-start : {ticket node : ℕ} → Opens (start ticket node) no-ticket ticket node
   by-call : {parent ticket node : ℕ} → Opens (call parent ticket node) parent ticket node
 
 pub record Demand-2 : Type 0 where
   -- "A plan is accepted exactly when the paper's condition on annotated call graphs and the file rules hold"
   pub plans : (bytes : List ℕ) (rs : List Record) (used : ℕ)
       → (read bytes ≡ accepted rs used) ↔ ((rest : List ℕ) × (bytes ≡ encode rs ++ rest) × (used ≡ length (encode rs)) × PlanOk rs)
-  -- "Every start, call .. gets LIVE-P's answer": active if the site stays lawful with one call more of its level, else waiting
+  -- "Every start, call and return gets LIVE-P's answer": none is refused but where a row of the table says so, the first that does
+  pub accepted-when : (net : Core) → Keeps net → (command : Command) → (fault net command ≡ 0) ↔ First 0 (rows net command)
+  pub refused-when : (net : Core) → Keeps net → (command : Command) (n : ℕ) → List·Memᴰ n (order command)
+      → (fault net command ≡ n) ↔ First n (rows net command)
+  -- a start or a call that is accepted is active if the site stays lawful with one call more of its level, else waiting
   pub opening-answer : (net : Core) (command : Command) (parent ticket node : ℕ) → Opens command parent ticket node → fault net command ≡ 0
       → step net command .answer
       ≡ cond (may-admit (threads (net .plan) (site-of (net .plan) node)) (counts (net .plan) (net .calls) (site-of (net .plan) node)) (level-of (net .plan) node))

@@ -21,4 +21,5 @@ pub mod Tally
 pub mod ProgramCase
 pub mod Same
 pub mod Useless
+pub mod Refusals
 pub mod Demands
