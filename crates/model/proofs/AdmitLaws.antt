@@ -3,6 +3,7 @@
 use Prim.Native.Nat.{ℕ, _≤_}
 use native.Mathlib.Omega.{arith}
 use mathlib.Core.Path.{_≡_, refl, sym, ap, _∙_}
+use mathlib.Core.Logic.{_↔_}
 use mathlib.Core.Bool.{Bool, true, false, _&&_}
 use mathlib.Core.List.{List, List·Memᴰ}
 use lib.ListN.{length}
@@ -12,10 +13,12 @@ use Rattle.lists.proofs.CountLaws.{not-true-false, and-left, and-right}
 use Rattle.lists.proofs.PickLaws.{count-none, some-counted}
 use Rattle.model.specs.Site.{A, lawful}
 use Rattle.model.specs.Rule.{Rule, LIVE-P, Blocked, Sound}
+use Rattle.model.specs.Paper.{φ′, In-use}
 use Rattle.model.specs.Plan.{Record, threads, six, passes}
 use Rattle.model.specs.Net.{Call, has-node, site-of, level-of, on, active-on, above, counts, admissible, limit-at}
 use Rattle.model.specs.NetRules.{Lawful}
 use Rattle.model.proofs.RuleLaws.{LIVE-P-sound, under-limit, over-limit, admits-below, B}
+use Rattle.model.proofs.PaperLaws.{admit-φ′}
 use Rattle.model.proofs.PlaceLaws.{threads-most, level-below-threads}
 use Rattle.model.proofs.CountsLaws.{of-level, counts-length, counts-at, A-counts}
 
@@ -90,3 +93,27 @@ module _ (rs : List Record) (pass : passes six rs ≡ true) (cs : List Call) (la
         let c = v .0 in
         let at-level = eqb-true (level-of rs (c .node)) (w .0) (and-right (active-on rs s c) (eqb (level-of rs (c .node)) (w .0)) (v .2)) in
         (c, v .1, and-left (active-on rs s c) (eqb (level-of rs (c .node)) (w .0)) (v .2), omega (arith, w .1))
+
+    -- LIVE-P's guard, over the levels of a site's nodes: the call of a node may be admitted exactly where the paper's φ′ of its level holds
+    abbrev level-used : ℕ → ℕ → Type 0
+    level-used s k = (n : ℕ) × (has-node rs n ≡ true) × (site-of rs n ≡ s) × (level-of rs n ≡ k)
+
+    pub levels-in-use : (s : ℕ) → In-use (level-used s) (threads rs s) (counts rs cs s)
+    unfolding of-level active-on on
+    levels-in-use s =
+        record {
+          below = λ k w. omega (arith, level-below-threads rs pass (w .0) (w .1), ap (threads rs) (w .2), w .3);
+          active = λ k h.
+              let v = some-counted (of-level rs s k) cs (omega (arith, counts-at rs s pass cs k)) in
+              let c = v .0 in
+              let here = and-left (active-on rs s c) (eqb (level-of rs (c .node)) k) (v .2) in
+              (c .node, all-known c (v .1), eqb-true (site-of rs (c .node)) s (and-left (on rs s c) (c .active) here),
+              eqb-true (level-of rs (c .node)) k (and-right (active-on rs s c) (eqb (level-of rs (c .node)) k) (v .2)));
+        }
+
+    pub paper-guard : (n : ℕ) → has-node rs n ≡ true
+        → (admissible rs cs n ≡ true) ↔ φ′ (level-used (site-of rs n)) (threads rs (site-of rs n)) (counts rs cs (site-of rs n)) (level-of rs n)
+    unfolding admissible
+    paper-guard n known =
+        let s = site-of rs n in
+        admit-φ′ (level-used s) (threads rs s) (counts rs cs s) (level-of rs n) (levels-in-use s) (n, known, refl, refl) (counts-long s)

@@ -34,4 +34,5 @@ pub mod SameLaws
 pub mod Useless
 pub mod GivenLaws
 pub mod RefusalRows
+pub mod PublicLaws
 pub mod Demands

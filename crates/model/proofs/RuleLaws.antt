@@ -82,7 +82,7 @@ LIVE-P-sound =
     }
 
 module _ (T : ℕ) (a : List ℕ) (i : ℕ) (below : i < T) where
-  -- below the limit nothing is blocked, whatever the site holds
+  -- below the limit nothing is blocked at a lawful site
   pub under-limit : i < limit T a → lawful T a ≡ true → Blocked LIVE-P T a i → ⊥
   unfolding limit
   under-limit h law b =

@@ -191,7 +191,7 @@ module _ (rs : List Record) (cs : List Call) (f : Firm rs cs) (settled : Settled
             subst (λ (s : ℕ). Held-back rs cs s (level-of rs (x .node))) q
             (blocked rs (f .pass) cs (f .law) (x .node) (left-firm .known x i) (held-before x i w))
 
-  -- "At most one is admitted; after it no other waiting call there is admissible"
+  -- "after it no other waiting call there is admissible" ("At most one is admitted": `order-woken`, of OrderLaws)
   pub one-is-enough : (c : Call) → List·Memᴰ c left → c .active ≡ false → site-of rs (c .node) ≡ here
       → admissible rs (woken rs left here) (c .node) ≡ false
   one-is-enough c m w same = go (waker rs left here) refl

@@ -8,7 +8,7 @@ use Rattle.lists.specs.Pick.{any, found, without, changed}
 use Rattle.model.specs.Site.{A, lawful, raised, may-admit}
 use Rattle.model.specs.Plan.{threads, place, calls}
 use Rattle.model.specs.Net.{has-node, site-of, level-of, has, on, active-on, counts, admissible, newcomer, opened}
-use Rattle.model.specs.Command.{refused, active, waiting, fault, opening, step}
+use Rattle.model.specs.Command.{Command, start, refused, active, waiting, fault, opening, step}
 use Rattle.model.specs.Useless.{answers, refusing, always-active, forgetful, pretending, small-net, two-starts}
 
 -- what is right is that the first start gets the thread and the second waits; those that forget or pretend say "active" twice
@@ -23,9 +23,9 @@ evaluated = (refl, refl, refl)
 not-right : active ∷ active ∷ [] ≡ answers small-net two-starts → ⊥
 not-right e = let q : active ∷ active ∷ [] ≡ active ∷ waiting ∷ [] = e ∙ evaluated .0 in let z : _≡_ {A = ℕ} 0 1 = cc in omega arith
 
-pub refusing-differs : refusing small-net two-starts ≡ answers small-net two-starts → ⊥
-refusing-differs e =
-    let q : refused 26 ∷ refused 26 ∷ [] ≡ active ∷ waiting ∷ [] = e ∙ evaluated .0 in let z : _≡_ {A = ℕ} 0 1 = cc in omega arith
+pub refusing-differs : (why : Command → ℕ) → refusing why small-net two-starts ≡ answers small-net two-starts → ⊥
+refusing-differs why e =
+    let q : refused (why (start 1 0)) ∷ refused (why (start 2 0)) ∷ [] ≡ active ∷ waiting ∷ [] = e ∙ evaluated .0 in let z : _≡_ {A = ℕ} 0 1 = cc in omega arith
 
 pub always-active-differs : always-active small-net two-starts ≡ answers small-net two-starts → ⊥
 always-active-differs = not-right

@@ -22,4 +22,5 @@ pub mod ProgramCase
 pub mod Same
 pub mod Useless
 pub mod Refusals
+pub mod Public
 pub mod Demands

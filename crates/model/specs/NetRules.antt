@@ -50,7 +50,7 @@ pub record NetRules (net : Core) (book : Book) : Type 0 where
   pub few-open : length (net .calls) ≤ most-open
 
 -- "each site's waiting order holds each of its waiting calls once and nothing else" is no field: the order is read off the calls, so that it holds
--- of every net (`order-holds`, `order-once`, of OrderLaws)
+-- of every net whose tickets differ (`order-holds`, `order-once`, of OrderLaws)
 
 -- the book as the core has it
 abbrev pub own-book : Core → Book

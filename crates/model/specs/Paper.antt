@@ -19,7 +19,7 @@ A′ a i j = A a j + one (leb j i)
 abbrev pub φ′ : (ℕ → Type 0) → ℕ → List ℕ → ℕ → Type 0
 φ′ used T a i = (k : ℕ) → used k → A′ a i k ≤ T - k
 
--- the levels of a call graph as file check 6 leaves them, below T, and every active call has one of them
+-- the levels of a site's nodes, below T as file check 6 leaves them; and every active call has one of them (`levels-in-use`, of AdmitLaws)
 pub record In-use (used : ℕ → Type 0) (T : ℕ) (a : List ℕ) : Type 0 where
   pub below : (k : ℕ) → used k → k < T
   pub active : (k : ℕ) → 1 ≤ getD a k 0 → used k

@@ -1,5 +1,6 @@
 -- The useless libraries of document 01, "How tight the promises are", as what they answer to a run of commands, and a run on which each differs.
 -- Assumes nothing.
+use Prim.Native.Nat.{ℕ}
 use mathlib.Core.List.{List, [], _∷_}
 use Rattle.model.specs.Plan.{site, node}
 use Rattle.model.specs.Net.{Core, empty-net}
@@ -10,10 +11,10 @@ abbrev pub answers : Core → List Command → List Answer
 answers net [] = []
 answers net (c ∷ rest) = step net c .answer ∷ answers (step net c .core) rest
 
--- "One refusing all commands"
-abbrev pub refusing : Core → List Command → List Answer
-refusing net [] = []
-refusing net (c ∷ rest) = refused 26 ∷ refusing net rest
+-- "One refusing all commands", with whatever number
+abbrev pub refusing : (Command → ℕ) → Core → List Command → List Answer
+refusing why net [] = []
+refusing why net (c ∷ rest) = refused (why c) ∷ refusing why net rest
 
 -- "one answering 'active' always"
 abbrev pub always-active : Core → List Command → List Answer
