@@ -2,27 +2,26 @@
 -- Assumes nothing.
 use Prim.Native.Nat.{ℕ, _+_, _*_, _≤_, _<_}
 use native.Mathlib.Omega.{arith}
-use mathlib.Core.Path.{_≡_, refl, sym, ap, subst, _∙_}
+use mathlib.Core.Path.{_≡_, refl, sym, ap, _∙_}
 use mathlib.Core.Logic.{⊎-elim}
-use mathlib.Core.Bool.{Bool, true, false, not, _&&_, cond}
+use mathlib.Core.Bool.{Bool, true, false, not, cond}
 use mathlib.Core.List.{List}
 use mathlib.Core.Option.{Option, none, some}
 use lib.ListN.{length, getD, List·getD-eq-default}
-use lib.Dec.{ltb, eqb}
-use borrow.Author.Tests.{eq-eqb, ne-eqb, eqb-true, lt-ltb, le-ltb, ltb-true}
+use lib.Dec.{eqb}
+use borrow.Author.Tests.{eq-eqb, ne-eqb, lt-ltb, le-ltb}
 use Rattle.ids.specs.Limits.{no-ticket, most-open, most-threads, nodes}
 use Rattle.lists.specs.Count.{first, some as holds-below}
-use Rattle.lists.specs.Pick.{any, first-place}
+use Rattle.lists.specs.Pick.{first-place}
 use Rattle.lists.proofs.CountLaws.{never-both, lt-or-ge}
 use Rattle.lists.proofs.PickLaws.{count-some, found-in}
 use Rattle.model.specs.Plan.{Record, calls}
 use Rattle.model.specs.PlanValue.{nowhere as nowhere-place, somewhere}
-use Rattle.model.specs.Net.{Call, Core, has-node, site-of, level-of, has, lookup, is-open, is-active, node-of, is-child, has-child}
-use Rattle.model.specs.NetRules.{Firm}
+use Rattle.model.specs.Net.{Call, Core, has-node, site-of, level-of, has, lookup, has-child}
 use Rattle.model.specs.Command.{start, call, return, fault}
 use Rattle.record.specs.Step.{listed-node}
 use Rattle.table.specs.Places.{holds, Searched}
-use Rattle.moves.specs.Held.{Tells, ticket-number, key-of}
+use Rattle.moves.specs.Held.{key-of}
 use Rattle.moves.proofs.TableLaws.{Found-at, nowhere, there, found-at, tells-table, told-there, child-is}
 use Rattle.faults.specs.Seen.{Listing, Edging, Ticketed, CallSeen, ReturnSeen}
 

@@ -1,8 +1,8 @@
 -- What the tests of a command look at: the tickets, parents, keys and nodes of the open calls, the sites of the nodes and the table of edges. For the contracts
 -- of `faults`. Assumes nothing.
-use Prim.Native.Nat.{ℕ, _+_, _*_, _≤_, _<_}
+use Prim.Native.Nat.{ℕ, _+_, _*_, _<_}
 use mathlib.Core.Path.{_≡_}
-use mathlib.Core.Bool.{Bool, not}
+use mathlib.Core.Bool.{not}
 use mathlib.Core.List.{List}
 use lib.ListN.{length, getD}
 use lib.Dec.{eqb}

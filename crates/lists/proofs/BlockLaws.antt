@@ -6,7 +6,7 @@ use mathlib.Core.Path.{_≡_, refl, sym, ap, subst, _∙_}
 use mathlib.Core.Logic.{⊎-elim}
 use mathlib.Core.Bool.{Bool, true, false, _||_}
 use Rattle.lists.specs.Count.{some, first}
-use Rattle.lists.proofs.CountLaws.{lt-or-ge, never-both, or-left, or-right, first-le, first-holds, first-before, first-is, first-none}
+use Rattle.lists.proofs.CountLaws.{lt-or-ge, never-both, or-left, or-right, first-le, first-holds, first-before, first-is}
 
 -- Whether the test holds of some number
 

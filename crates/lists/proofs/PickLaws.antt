@@ -266,6 +266,17 @@ module _ {A : Type 0} where
           (λ j. ⊎-elim (λ k. inl (List·Memᴰ·tail k)) (λ w. inr w) (ih j))
           (List·Memᴰ·cases-cons i)
 
+  -- and the changed one stands there
+  pub changed-there : (h : A → A) (f : A → Bool) (xs : List A) (y : A) → found f xs ≡ some y → List·Memᴰ (h y) (changed h f xs)
+  unfolding found changed
+  changed-there h f [] y e = let z : _≡_ {A = ℕ} 0 1 = cc in absurd (omega arith)
+  changed-there h f (x ∷ xs) y e = go (f x) e (changed-there h f xs y)
+    where
+      go : (b : Bool) → cond b (some x) (found f xs) ≡ some y → (found f xs ≡ some y → List·Memᴰ (h y) (changed h f xs))
+          → List·Memᴰ (h y) (cond b (h x ∷ xs) (x ∷ changed h f xs))
+      go true q ih = let same : y ≡ x = cc in List·Memᴰ·head (ap h same)
+      go false q ih = List·Memᴰ·tail (ih q)
+
   pub count-changed : (h : A → A) (f g : A → Bool) (xs : List A) (y : A)
       → found f xs ≡ some y → count g (changed h f xs) + one (g y) ≡ count g xs + one (g (h y))
   unfolding found changed count

@@ -1,15 +1,15 @@
 -- A list by the numbers of its entries, place by place: with one entry more, one less and one changed, and searched from its front. By induction over the
 -- list. Assumes nothing.
-use Prim.Native.Nat.{ℕ, zero, suc, _+_, _≤_, _<_}
+use Prim.Native.Nat.{ℕ, zero, suc, _≤_, _<_}
 use native.Mathlib.Omega.{arith}
 use mathlib.Core.Path.{_≡_, refl, sym, ap, _∙_}
 use mathlib.Core.Logic.{⊎-elim}
 use mathlib.Core.Bool.{Bool, true, false, _||_, cond}
 use mathlib.Core.List.{List, [], _∷_, _++_}
-use mathlib.Core.Option.{Option, none, some}
+use mathlib.Core.Option.{none, some}
 use lib.ListN.{length}
-use lib.Dec.{eqb, ltb, leb, eqb·suc-suc, eqb·zero-suc, eqb·suc-zero, leb·suc-suc}
-use borrow.Author.Tests.{eq-eqb, ne-eqb, lt-ltb, le-ltb, eqb-true, eqb-false}
+use lib.Dec.{eqb, ltb, eqb·suc-suc, eqb·zero-suc, eqb·suc-zero, leb·suc-suc}
+use borrow.Author.Tests.{lt-ltb, le-ltb}
 use Rattle.lists.specs.Count.{first, some as holds-below}
 use Rattle.lists.specs.Pick.{any, found, without, changed, tell, passes-at, first-place}
 use Rattle.lists.proofs.CountLaws.{decided, never-both, or-left, or-right, first-none}

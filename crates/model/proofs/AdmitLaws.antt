@@ -11,7 +11,7 @@ use lib.Dec.{leb, ltb, eqb}
 use borrow.Author.Tests.{eqb-true, lt-leb, ltb-true, ltb-false}
 use Rattle.lists.proofs.CountLaws.{not-true-false, and-left, and-right}
 use Rattle.lists.proofs.PickLaws.{count-none, some-counted}
-use Rattle.model.specs.Site.{A, lawful}
+use Rattle.model.specs.Site.{A}
 use Rattle.model.specs.Rule.{Rule, LIVE-P, Blocked, Sound}
 use Rattle.model.specs.Paper.{φ′, In-use}
 use Rattle.model.specs.Plan.{Record, threads, six, passes}
@@ -106,9 +106,12 @@ module _ (rs : List Record) (pass : passes six rs ≡ true) (cs : List Call) (la
           active = λ k h.
               let v = some-counted (of-level rs s k) cs (omega (arith, counts-at rs s pass cs k)) in
               let c = v .0 in
-              let here = and-left (active-on rs s c) (eqb (level-of rs (c .node)) k) (v .2) in
-              (c .node, all-known c (v .1), eqb-true (site-of rs (c .node)) s (and-left (on rs s c) (c .active) here),
-              eqb-true (level-of rs (c .node)) k (and-right (active-on rs s c) (eqb (level-of rs (c .node)) k) (v .2)));
+              let here = and-left (active-on rs s c) (eqb (level-of rs (c .node)) k) (v .2) in (
+                c .node,
+                all-known c (v .1),
+                eqb-true (site-of rs (c .node)) s (and-left (on rs s c) (c .active) here),
+                eqb-true (level-of rs (c .node)) k (and-right (active-on rs s c) (eqb (level-of rs (c .node)) k) (v .2)),
+              );
         }
 
     pub paper-guard : (n : ℕ) → has-node rs n ≡ true

@@ -4,7 +4,7 @@ use mathlib.Core.Path.{_≡_, refl, ap, ap₂}
 use Prim.Native.Nat.{ℕ, suc}
 use native.Mathlib.Omega.{arith}
 use Rattle.model.specs.Answers.{toldLevel, toldAdmission, toldRoom}
-use Rattle.model.specs.Command.{Answer, refused, active, waiting, ended, told}
+use Rattle.model.specs.Command.{Answer, refused, active, waiting, ended, told, Standing, is-running, is-waiting, not-open, told-standing, Roomed, has-room, no-answer, told-roomed}
 use Rattle.model.specs.declared.LevelAnswer.{LevelAnswer}
 use Rattle.model.specs.declared.AdmissionAnswer.{AdmissionAnswer}
 use Rattle.model.specs.declared.RoomAnswer.{RoomAnswer}
@@ -63,3 +63,20 @@ told-injective (ended t) (refused m) e = cc
 told-injective (ended t) active e = cc
 told-injective (ended t) waiting e = cc
 told-injective (ended t) (ended u) e = let q : t ≡ u = cc in ap ended q
+
+pub standing-injective : (x y : Standing) → told-standing x ≡ told-standing y → x ≡ y
+standing-injective is-running is-running e = refl
+standing-injective is-running is-waiting e = let z : _≡_ {A = ℕ} 1 0 = cc in absurd (omega arith)
+standing-injective is-running not-open e = let z : _≡_ {A = ℕ} 1 2 = cc in absurd (omega arith)
+standing-injective is-waiting is-running e = let z : _≡_ {A = ℕ} 0 1 = cc in absurd (omega arith)
+standing-injective is-waiting is-waiting e = refl
+standing-injective is-waiting not-open e = let z : _≡_ {A = ℕ} 0 2 = cc in absurd (omega arith)
+standing-injective not-open is-running e = let z : _≡_ {A = ℕ} 2 1 = cc in absurd (omega arith)
+standing-injective not-open is-waiting e = let z : _≡_ {A = ℕ} 2 0 = cc in absurd (omega arith)
+standing-injective not-open not-open e = refl
+
+pub roomed-injective : (x y : Roomed) → told-roomed x ≡ told-roomed y → x ≡ y
+roomed-injective (has-room n) (has-room m) e = let q : n ≡ m = cc in ap has-room q
+roomed-injective (has-room n) (no-answer m) e = cc
+roomed-injective (no-answer n) (has-room m) e = cc
+roomed-injective (no-answer n) (no-answer m) e = let q : n ≡ m = cc in ap no-answer q

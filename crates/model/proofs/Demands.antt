@@ -75,17 +75,21 @@ module _ (net : Core) (k : Keeps net) where
   -- the first two parts hold under any plan, accepted or not
   pub keeps-few : (s j : ℕ) → j < threads (net .plan) s → count (above (net .plan) s j) (net .calls) ≤ threads (net .plan) s - j
   keeps-few s j h =
-      omega (arith, lawful-at (threads (net .plan) s) (counts (net .plan) (net .calls) s) (k .sites-lawful s) j h,
-      A-counts (net .plan) s (k .plan-passes) (net .calls) j)
+      omega (
+        arith,
+        lawful-at (threads (net .plan) s) (counts (net .plan) (net .calls) s) (k .sites-lawful s) j h,
+        A-counts (net .plan) s (k .plan-passes) (net .calls) j,
+      )
 
   pub keeps-settled : (c : Call) → List·Memᴰ c (net .calls) → c .active ≡ false → admissible (net .plan) (net .calls) (c .node) ≡ false
   keeps-settled c m w = waits-held (net .plan) (net .calls) c (k .settled c m) w
 
   free-ended : (d : Call) → fault net (return (d .ticket)) ≡ 0 → (t : ℕ) × (step net (return (d .ticket)) .answer ≡ ended t)
   unfolding serving
-  free-ended d e =
-      (ticket-of (waker (net .plan) (closed (net .calls) (d .ticket)) (site-of (net .plan) (node-of (lookup (net .calls) (d .ticket))))),
-      ap (λ (r : Outcome). r .answer) (accepted-step net (return (d .ticket)) e))
+  free-ended d e = (
+    ticket-of (waker (net .plan) (closed (net .calls) (d .ticket)) (site-of (net .plan) (node-of (lookup (net .calls) (d .ticket))))),
+    ap (λ (r : Outcome). r .answer) (accepted-step net (return (d .ticket)) e),
+  )
 
   -- every net that keeps the rules under an accepted plan is safe
   pub keeps-safe : PlanOk (net .plan) → Safe net

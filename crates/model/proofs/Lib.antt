@@ -36,3 +36,5 @@ pub mod GivenLaws
 pub mod RefusalRows
 pub mod PublicLaws
 pub mod Demands
+pub mod TranscriptLaws
+pub mod FullTable

@@ -3,16 +3,18 @@
 use Prim.Native.Nat.{ℕ, _+_, _≤_}
 use native.Mathlib.Omega.{arith}
 use mathlib.Core.Path.{_≡_, refl, sym, ap, _∙_}
-use mathlib.Core.Logic.{_↔_}
+use mathlib.Core.Logic.{_↔_, _⊎_}
 use mathlib.Core.Bool.{Bool, true, false, _&&_, cond}
 use mathlib.Core.List.{List, [], _∷_, _++_, List·Memᴰ}
 use mathlib.Core.Option.{Option, none, some}
 use lib.Dec.{ltb, eqb}
-use borrow.Author.Tests.{eqb-true, ne-eqb}
+use borrow.Author.Tests.{eqb-true, eq-eqb, ne-eqb}
 use Rattle.lists.specs.Count.{one}
 use Rattle.lists.specs.Pick.{count, found, without, changed}
 use Rattle.lists.proofs.CountLaws.{never-both, not-true-false, and-left, and-right}
-use Rattle.lists.proofs.PickLaws.{count-more, count-fewer, count-without, count-changed, changed-none, found-more, found-last, found-without, found-picked, picked-more, picked-without, picked-changed, picked-apart, picked-all, all-picked, count-picked, any-counted}
+use Rattle.lists.proofs.PickLaws.{count-some, count-more, count-fewer, count-without, count-changed, count-picked, only-one, any-counted}
+use Rattle.lists.proofs.PickLaws.{found-in, found-none, found-some, found-more, found-last, found-without, found-changed, found-picked, in-without}
+use Rattle.lists.proofs.PickLaws.{changed-none, changed-there, none-changed, picked-more, picked-without, picked-changed, picked-apart, picked-all, all-picked}
 use Rattle.model.specs.Plan.{Record}
 use Rattle.model.specs.Net.{Call, has, lookup, is-child, has-child, on, waits-on, waiting-order, admissible, newcomer, opened, closed, may-wake, waker, activated, woken}
 use Rattle.model.proofs.FirmLaws.{waits-site}
@@ -100,6 +102,44 @@ module _ (cs : List Call) where
   unfolding closed has
   lookup-closed ticket t apart =
       found-without (has ticket) (has t) cs (λ c e. ne-eqb (c .ticket) ticket (λ q. apart (sym (eqb-true (c .ticket) t e) ∙ q)))
+
+  -- and, where tickets differ, nobody has the closed one any more
+  pub lookup-closed-own : (ticket : ℕ) → count (has ticket) cs ≤ 1 → lookup (closed cs ticket) ticket ≡ none
+  unfolding closed
+  lookup-closed-own ticket once = go (lookup (without (has ticket) cs) ticket) refl (lookup cs ticket) refl
+    where
+      go : (o : Option Call) → lookup (without (has ticket) cs) ticket ≡ o → (p : Option Call) → lookup cs ticket ≡ p → o ≡ none
+      go none e p q = refl
+      go (some c) e none q =
+          let w = found-in (has ticket) (without (has ticket) cs) c e in
+          absurd (never-both (w .1) (found-none (has ticket) cs q c (in-without (has ticket) cs c (w .0))))
+      go (some c) e (some d) q =
+          let w = found-in (has ticket) (without (has ticket) cs) c e in
+          let v = found-in (has ticket) cs d q in
+          absurd (omega (arith, count-without (has ticket) (has ticket) cs d q, ap one (v .1), count-some (has ticket) (without (has ticket) cs) c (w .0) (w .1)))
+
+  -- a call that is woken is found as it then is, and every other as before
+  pub lookup-woken : (rs : List Record) (s t : ℕ) (c : Call) → lookup cs t ≡ some c
+      → (lookup (woken rs cs s) t ≡ some c) ⊎ (lookup (woken rs cs s) t ≡ some (activated c))
+  unfolding woken has
+  lookup-woken rs s t c e = found-changed activated (may-wake rs cs s) (has t) cs c (λ x. refl) e
+
+  pub lookup-woken-none : (rs : List Record) (s t : ℕ) → lookup cs t ≡ none → lookup (woken rs cs s) t ≡ none
+  unfolding woken has
+  lookup-woken-none rs s t e = none-changed activated (may-wake rs cs s) (has t) cs (λ x. refl) e
+
+  -- the ticket that a return names is found active
+  pub lookup-named : (rs : List Record) (s : ℕ) (d : Call) → waker rs cs s ≡ some d → count (has (d .ticket)) cs ≤ 1
+      → lookup (woken rs cs s) (d .ticket) ≡ some (activated d)
+  unfolding woken waker has
+  lookup-named rs s d chosen once =
+      let ds = changed activated (may-wake rs cs s) cs in
+      let own = eq-eqb (d .ticket) (d .ticket) refl in
+      let here = changed-there activated (may-wake rs cs s) cs d chosen in
+      let w = found-some (has (d .ticket)) ds (activated d) here own in
+      let v = found-in (has (d .ticket)) ds (w .0) (w .1) in
+      let few : count (has (d .ticket)) ds ≤ 1 = omega (arith, count-changed activated (may-wake rs cs s) (has (d .ticket)) cs d chosen) in
+      w .1 ∙ ap some (only-one (has (d .ticket)) ds few (w .0) (activated d) (v .0) here (v .1) own)
 
 -- Children
 

@@ -1,6 +1,6 @@
 -- The tests of a command decide the rows of 01's table, in a net that keeps the rules: each test fails exactly where its row holds, once the tests before it have
 -- passed. So a number is given exactly when its row is the first that holds. Assumes nothing.
-use Prim.Native.Nat.{ℕ, suc, _≤_, _<_}
+use Prim.Native.Nat.{ℕ}
 use native.Mathlib.Omega.{arith}
 use mathlib.Core.Path.{_≡_, refl, sym, ap, subst, _∙_}
 use mathlib.Core.Logic.{_↔_, ⊎-elim}
@@ -9,18 +9,18 @@ use mathlib.Core.List.{List, [], _∷_, List·Memᴰ}
 use mathlib.Core.Option.{Option, none, some}
 use lib.ListN.{length}
 use lib.Dec.{eqb, ltb}
-use borrow.Author.Tests.{eqb-true, eq-eqb, ne-eqb, eqb-false, ltb-false, le-ltb}
+use borrow.Author.Tests.{eqb-true, eq-eqb, ltb-false, le-ltb}
 use Rattle.ids.specs.Limits.{no-ticket, most-open}
-use Rattle.lists.specs.Pick.{any, found}
+use Rattle.lists.specs.Pick.{any}
 use Rattle.lists.proofs.CountLaws.{decided, never-both, not-true-false}
-use Rattle.lists.proofs.PickLaws.{found-in, found-none, found-some, any-some, any-none}
+use Rattle.lists.proofs.PickLaws.{found-in, any-some, any-none}
 use Rattle.model.specs.Plan.{Record, edge, calls, present, six}
 use Rattle.model.specs.Records.{Listed}
 use Rattle.model.specs.Faults.{Given}
 use Rattle.model.specs.Net.{Call, Core, has-node, has, lookup, is-open, is-active, node-of, is-child, has-child}
 use Rattle.model.specs.NetRules.{Keeps}
-use Rattle.model.specs.Command.{Command, start, call, return, start-tests, call-tests, return-tests, tests, order, fault}
-use Rattle.model.specs.Refusals.{Open, Waits, Row, row-20, row-21, row-22, row-23, row-24, row-25, row-26, row-27, row-28, row-29, rows, First}
+use Rattle.model.specs.Command.{Command, start, call, return, tests, order, fault}
+use Rattle.model.specs.Refusals.{Open, Waits, Row, rows, First}
 use Rattle.model.proofs.GraphLaws.{yes, is-true}
 use Rattle.model.proofs.RecordLaws.{passes-ok, listed-place}
 use Rattle.model.proofs.PlanLaws.{calls-listed, listed-calls}
@@ -154,12 +154,23 @@ module _ (net : Core) (k : Keeps net) where
   unfolding Decides
   rows-decided (start ticket node) =
       (refl, no-number ticket, λ a. (refl, is-taken ticket, λ b. (refl, unlisted node, λ c. (refl, full, λ d. tt))))
-  rows-decided (call parent ticket node) =
-      (refl, no-number ticket,
-      λ a. (refl, is-taken ticket,
-      λ b. (refl, not-open parent,
-      λ there. (refl, waits parent there,
-      λ c. (refl, unlisted node, λ d. (refl, no-edge parent node there, λ e. (refl, full, λ f. tt)))))))
+  rows-decided (call parent ticket node) = (
+    refl,
+    no-number ticket,
+    λ a. (
+      refl,
+      is-taken ticket,
+      λ b. (
+        refl,
+        not-open parent,
+        λ there. (
+          refl,
+          waits parent there,
+          λ c. (refl, unlisted node, λ d. (refl, no-edge parent node there, λ e. (refl, full, λ f. tt))),
+        ),
+      ),
+    ),
+  )
   rows-decided (return ticket) = (refl, not-open ticket, λ there. (refl, waits ticket there, λ a. (refl, childless ticket, λ b. tt)))
 
   -- "given exactly when": a number of the order is given exactly where its row is the first that holds

@@ -5,7 +5,7 @@ use native.Mathlib.Omega.{arith}
 use mathlib.Core.Path.{_≡_, refl, sym, ap, ap₂, subst, _∙_}
 use mathlib.Core.Logic.{⊎-elim}
 use mathlib.Core.Bool.{Bool, true, false, not, _&&_, cond}
-use mathlib.Core.List.{List, List·Memᴰ}
+use mathlib.Core.List.{List, [], _∷_, List·Memᴰ}
 use mathlib.Core.Option.{Option, none, some}
 use lib.ListN.{length}
 use lib.Dec.{eqb, ltb}
@@ -16,14 +16,14 @@ use Rattle.lists.specs.Pick.{count, found, without, changed}
 use Rattle.lists.proofs.CountLaws.{decided, never-both, and-left, and-right, and-both}
 use Rattle.lists.proofs.PickLaws.{count-all, count-none, count-some, some-counted, count-more, count-without, count-changed, changed-none, found-in, found-none, found-alike, only-one}
 use Rattle.model.specs.Plan.{Record, threads, six, passes}
-use Rattle.model.specs.Site.{may-admit}
+use Rattle.model.specs.Site.{may-admit, room}
 use Rattle.model.specs.Net.{Call, Core, site-of, level-of, has, lookup, ticket-of, has-child, counts, waiting-order, admissible, newcomer, opened, closed, may-wake, waker, activated, woken}
-use Rattle.model.specs.Command.{Command, start, call, return, refused, active, waiting, ended, fault, opening, serving, done, step}
+use Rattle.model.specs.Command.{Command, start, call, return, refused, active, waiting, ended, fault, opening, serving, done, step, run, ask, standing, has-room, no-answer, room-at}
 use Rattle.model.specs.NetRules.{Keeps, Ending}
 use Rattle.model.specs.Same.{Same}
 use Rattle.model.proofs.CountsLaws.{of-level, counts-alike}
 use Rattle.model.proofs.OrderLaws.{waker-oldest, order-opened, order-closed, order-woken, order-elsewhere, has-child-counted}
-use Rattle.model.proofs.StepLaws.{accepted-step, refused-step, return-fits}
+use Rattle.model.proofs.StepLaws.{accepted-step, refused-step, return-fits, step-keeps}
 use Rattle.model.proofs.FreeLaws.{found-by-ticket}
 
 -- Calls as values
@@ -258,3 +258,35 @@ step-same a b k l same =
     (same .plans)
     (λ l′ orders. calls-step-same (a .plan) (a .calls) (b .calls) k l′ (same .calls) orders)
     l (same .orders)
+
+-- so they do after any run, and to every question
+pub run-same : (a b : Core) → Keeps a → Keeps b → Same a b → (commands : List Command) → Same (run a commands) (run b commands)
+run-same a b k l same [] = same
+run-same a b k l same (c ∷ rest) =
+    run-same (step a c .core) (step b c .core) (step-keeps a k c) (step-keeps b l c) (step-same a b k l same c .1) rest
+
+module _ (a b : Core) (k : Keeps a) (l : Keeps b) (same : Same a b) where
+  pub ask-same : (ticket : ℕ) → ask a ticket ≡ ask b ticket
+  unfolding ask
+  ask-same ticket =
+      ap standing
+      (subst (λ (p : List Record). Keeps (net-of p (b .calls)) → ((s : ℕ) → waiting-order (a .plan) (a .calls) s ≡ waiting-order p (b .calls) s)
+      → lookup (a .calls) ticket ≡ lookup (b .calls) ticket)
+      (same .plans) (λ l′ orders. lookup-same (a .plan) (a .calls) (b .calls) k l′ (same .calls) orders ticket) l (same .orders))
+
+  pub room-same : (s k : ℕ) → room-at a s k ≡ room-at b s k
+  unfolding room-at
+  room-same s j =
+      subst (λ (p : List Record). room-at a s j ≡ room-at (net-of p (b .calls)) s j) (same .plans)
+      (ap (λ (c : List ℕ). cond (not (eqb (threads (a .plan) s) 0) && ltb j (threads (a .plan) s)) (has-room (room (threads (a .plan) s) c j)) (no-answer 30))
+      (counts-alike (a .plan) s (k .plan-passes) (b .calls) (a .calls) (λ i. same .calls (of-level (a .plan) s i))))
+
+-- it is an equivalence
+pub same-refl : (a : Core) → Same a a
+same-refl a = record { plans = refl; calls = λ f. refl; orders = λ s. refl }
+
+pub same-sym : {a b : Core} → Same a b → Same b a
+same-sym w = record { plans = sym (w .plans); calls = λ f. sym (w .calls f); orders = λ s. sym (w .orders s) }
+
+pub same-trans : {a b c : Core} → Same a b → Same b c → Same a c
+same-trans v w = record { plans = v .plans ∙ w .plans; calls = λ f. v .calls f ∙ w .calls f; orders = λ s. v .orders s ∙ w .orders s }

@@ -20,16 +20,12 @@ use Rattle.model.specs.Reading.{PlanOk}
 use Rattle.model.specs.Net.{Call, Core, empty-net, site-of, has, lookup, node-of, ticket-of, on, active-on, admissible, newcomer, opened, closed, may-wake, waker, activated, woken}
 use Rattle.model.specs.Command.{Command, start, call, return, Answer, refused, active, waiting, fault, Outcome, opening, serving, done, step, run}
 use Rattle.model.specs.NetRules.{Keeps, Ending}
-use Rattle.model.specs.Tally.{admits, returns, command-site, tally, AllAccepted, all-returns}
+use Rattle.model.specs.Tally.{active-calls, admits, returns, command-site, tally, AllAccepted, all-returns}
 use Rattle.model.proofs.FirmLaws.{keeps-firm, closed-firm, waker-fits}
 use Rattle.model.proofs.StepLaws.{accepted-step, refused-step, return-fits, step-keeps, empty-keeps, step-plan}
 use Rattle.model.proofs.FreeLaws.{Free, somebody-free, free-returns, ticket-not-0}
 
 -- Admissions less returns
-
--- the active calls of a site
-abbrev pub active-calls : Core → ℕ → ℕ
-active-calls net s = count (active-on (net .plan) s) (net .calls)
 
 -- an answer's share at a site
 abbrev share : (Answer → Bool) → ℕ → Bool → Answer → ℕ

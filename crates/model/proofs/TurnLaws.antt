@@ -1,6 +1,6 @@
 -- The turns of a reading: one turn either stops with the fault of its place or goes on behind a sound record, so that the reading of a passing
 -- plan's bytes is the reading of what stands behind them. Assumes nothing.
-use Prim.Native.Nat.{ℕ, zero, suc, _+_, _-_, _<_}
+use Prim.Native.Nat.{ℕ, zero, suc, _+_, _<_}
 use native.Mathlib.Nat.{not-suc-le-zero}
 use native.Mathlib.Omega.{arith}
 use mathlib.Core.Path.{_≡_, refl, sym, ap, _∙_}

@@ -8,8 +8,8 @@ use Rattle.lists.specs.Pick.{any, found, without, changed}
 use Rattle.model.specs.Site.{A, lawful, raised, may-admit}
 use Rattle.model.specs.Plan.{threads, place, calls}
 use Rattle.model.specs.Net.{has-node, site-of, level-of, has, on, active-on, counts, admissible, newcomer, opened}
-use Rattle.model.specs.Command.{Command, start, refused, active, waiting, fault, opening, step}
-use Rattle.model.specs.Useless.{answers, refusing, always-active, forgetful, pretending, small-net, two-starts}
+use Rattle.model.specs.Command.{Command, start, refused, active, waiting, fault, opening, step, answers}
+use Rattle.model.specs.Useless.{refusing, always-active, forgetful, pretending, small-net, two-starts}
 
 -- what is right is that the first start gets the thread and the second waits; those that forget or pretend say "active" twice
 evaluated :

@@ -115,6 +115,11 @@ abbrev pub run : Core → List Command → Core
 run net [] = net
 run net (command ∷ rest) = run (step net command .core) rest
 
+-- the answers to a run of commands
+abbrev pub answers : Core → List Command → List Answer
+answers net [] = []
+answers net (c ∷ rest) = step net c .answer ∷ answers (step net c .core) rest
+
 -- Questions
 
 -- "a question `A`, `W` or `N` (not open)"
@@ -125,6 +130,12 @@ abbrev pub standing : Option Call → Standing
 standing none = not-open
 standing (some c) = cond (c .active) is-running is-waiting
 
+-- told as an answer is: 1 active, 0 waiting, 2 not open
+abbrev pub told-standing : Standing → Told
+told-standing is-running = 0 ∷ 1 ∷ []
+told-standing is-waiting = 0 ∷ 0 ∷ []
+told-standing not-open = 0 ∷ 2 ∷ []
+
 unfoldable pub ask : Core → ℕ → Standing
 ask net ticket = standing (lookup (net .calls) ticket)
 
@@ -132,6 +143,10 @@ ask net ticket = standing (lookup (net .calls) ticket)
 pub data Roomed : Type 0 where
   has-room : ℕ → Roomed
   no-answer : ℕ → Roomed
+
+abbrev pub told-roomed : Roomed → Told
+told-roomed (has-room n) = 0 ∷ n ∷ []
+told-roomed (no-answer n) = n ∷ []
 
 unfoldable pub room-at : Core → ℕ → ℕ → Roomed
 room-at net s k =

@@ -1,14 +1,14 @@
 -- What anybody's net is answered: refusal 19 "comes before all others, for questions and room too"; and what a net is made from. The arrays of a value can say
 -- more than a core can, a count beyond its table or its edges: their refusals stand with the code that takes the value. Assumes nothing.
 use Prim.Native.Nat.{ℕ}
-use mathlib.Core.Bool.{Bool, true, false, cond}
-use mathlib.Core.List.{List, [], _∷_}
+use mathlib.Core.Bool.{Bool, cond}
+use mathlib.Core.List.{[]}
 use lib.Dec.{eqb}
 use Rattle.model.specs.PlanValue.{records-of}
 use Rattle.model.specs.PlanFault.{plan-fault}
 use Rattle.model.specs.Net.{Core, empty-net}
 use Rattle.model.specs.NetRules.{Book, broken-rule}
-use Rattle.model.specs.Command.{Command, Answer, refused, Outcome, step, Standing, ask, Roomed, no-answer, room-at}
+use Rattle.model.specs.Command.{Command, refused, Outcome, step, Standing, ask, Roomed, no-answer, room-at}
 use Rattle.model.specs.declared.Plan.{Plan}
 
 -- 19: "a net is handed in, and it or its plan breaks a net rule"

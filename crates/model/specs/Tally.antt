@@ -7,8 +7,13 @@ use mathlib.Core.List.{List, [], _∷_}
 use lib.Dec.{eqb}
 use Rattle.ids.specs.Limits.{no-ticket}
 use Rattle.lists.specs.Count.{one}
-use Rattle.model.specs.Net.{Core, site-of, lookup, node-of}
+use Rattle.lists.specs.Pick.{count}
+use Rattle.model.specs.Net.{Core, site-of, lookup, node-of, active-on}
 use Rattle.model.specs.Command.{Command, start, call, return, Answer, refused, active, waiting, ended, fault, step}
+
+-- "its active calls"
+abbrev pub active-calls : Core → ℕ → ℕ
+active-calls net s = count (active-on (net .plan) s) (net .calls)
 
 -- an answer that tells of a call that was given a thread, or of one that gave it back
 abbrev pub admits : Answer → Bool

@@ -1,7 +1,7 @@
 -- The bench program: document 01, "The bench program". The whole text for a whole input, a plan and then commands. Assumes nothing.
 use Prim.Native.Nat.{ℕ, zero, suc, _+_, _*_}
 use mathlib.Core.Bool.{cond}
-use mathlib.Core.List.{List, [], _∷_, _++_}
+use mathlib.Core.List.{List, [], _++_}
 use mathlib.Core.Option.{none, some}
 use lib.ListN.{length, getD, drop}
 use lib.Dec.{eqb}

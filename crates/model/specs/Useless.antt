@@ -6,11 +6,6 @@ use Rattle.model.specs.Plan.{site, node}
 use Rattle.model.specs.Net.{Core, empty-net}
 use Rattle.model.specs.Command.{Command, start, Answer, refused, active, step}
 
--- the answers to a run of commands
-abbrev pub answers : Core → List Command → List Answer
-answers net [] = []
-answers net (c ∷ rest) = step net c .answer ∷ answers (step net c .core) rest
-
 -- "One refusing all commands", with whatever number
 abbrev pub refusing : (Command → ℕ) → Core → List Command → List Answer
 refusing why net [] = []

@@ -1,20 +1,18 @@
 -- What `moves::close` does to the arrays: the gap at the call's place closes, and the rooms of its level and below gain one. Assumes nothing.
-use Prim.Native.Nat.{ℕ, suc, _+_, _-_, _*_, _≤_, _<_}
+use Prim.Native.Nat.{ℕ, _+_, _-_, _*_, _<_}
 use native.Mathlib.Omega.{arith}
-use mathlib.Core.Path.{_≡_, refl, sym, ap, subst, _∙_}
+use mathlib.Core.Path.{_≡_, sym, ap, _∙_}
 use mathlib.Core.Bool.{Bool, true, _&&_}
 use mathlib.Core.List.{List}
 use lib.ListN.{length}
-use lib.Dec.{eqb}
 use borrow.Author.Tests.{eq-eqb, ne-eqb}
-use Rattle.ids.specs.Limits.{sites, most-threads, most-open}
+use Rattle.ids.specs.Limits.{sites, most-threads}
 use Rattle.lists.specs.Fill.{Filled, renewed}
 use Rattle.lists.proofs.PickLaws.{found-in, length-without}
 use Rattle.lists.proofs.TellLaws.{place-inside}
 use Rattle.model.specs.Site.{raised}
 use Rattle.model.specs.Plan.{Record, threads}
 use Rattle.model.specs.Net.{Call, has-node, site-of, level-of, has, on, active-on, counts, closed}
-use Rattle.model.specs.NetRules.{Firm, Ending}
 use Rattle.model.proofs.PlaceLaws.{threads-most, site-small, level-small, level-below-threads}
 use Rattle.model.proofs.CountsLaws.{more, counts-length, counts-closed}
 use Rattle.model.proofs.FirmLaws.{closed-firm}

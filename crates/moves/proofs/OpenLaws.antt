@@ -1,11 +1,10 @@
 -- What `moves::open` does to the arrays: the newcomer's numbers are stored behind the others, and the rooms lose one where it is active. From the laws of the
 -- arrays and of the rooms. Assumes nothing.
-use Prim.Native.Nat.{ℕ, suc, _+_, _*_, _≤_, _<_}
+use Prim.Native.Nat.{ℕ, _+_, _*_, _≤_, _<_}
 use native.Mathlib.Omega.{arith}
 use mathlib.Core.Path.{_≡_, refl, sym, ap, subst, _∙_}
-use mathlib.Core.Logic.{⊎-elim}
 use mathlib.Core.Bool.{Bool, true, false, _&&_, cond}
-use mathlib.Core.List.{List, [], _∷_, _++_}
+use mathlib.Core.List.{List, [], _∷_}
 use lib.ListN.{length, set, length-append}
 use lib.Dec.{ltb, eqb}
 use borrow.Author.Tests.{lt-ltb, le-ltb, eq-eqb, ne-eqb}
@@ -15,7 +14,6 @@ use Rattle.lists.specs.Fill.{Filled, renewed}
 use Rattle.model.specs.Site.{lawful, raised}
 use Rattle.model.specs.Plan.{Record, threads}
 use Rattle.model.specs.Net.{Call, site-of, level-of, on, active-on, counts, admissible, limit-at, newcomer, opened}
-use Rattle.model.specs.NetRules.{Firm, Newcomer}
 use Rattle.model.proofs.PlaceLaws.{threads-most, site-small, level-small, level-below-threads}
 use Rattle.model.proofs.CountsLaws.{more, counts-length, counts-opened}
 use Rattle.model.proofs.AdmitLaws.{admissible-limit}

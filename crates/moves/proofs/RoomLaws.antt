@@ -2,23 +2,22 @@
 -- and a return gives it back. Assumes nothing.
 use Prim.Native.Nat.{ℕ, _+_, _-_, _*_, _≤_, _<_}
 use native.Mathlib.Omega.{arith}
-use mathlib.Core.Path.{_≡_, refl, sym, ap, subst, _∙_}
+use mathlib.Core.Path.{_≡_, sym, ap, subst, _∙_}
 use mathlib.Core.Logic.{_⊎_, inl, inr, ⊎-elim}
-use mathlib.Core.Bool.{Bool, true, false, cond}
+use mathlib.Core.Bool.{true}
 use mathlib.Core.List.{List}
 use lib.ListN.{length, getD}
-use lib.Dec.{ltb, leb, eqb}
-use borrow.Author.Tests.{lt-ltb, le-ltb, le-leb, lt-leb, eq-eqb, ne-eqb, eqb-true, eqb-false}
+use lib.Dec.{leb, eqb}
+use borrow.Author.Tests.{lt-ltb, le-ltb, le-leb, lt-leb, eq-eqb, eqb-true, eqb-false}
 use Rattle.ids.specs.Limits.{sites, most-threads}
 use Rattle.lists.specs.Count.{one, first}
 use Rattle.lists.specs.Fill.{Filled, renewed}
-use Rattle.lists.proofs.CountLaws.{decided, never-both, lt-or-ge, same-test, first-le, first-holds, first-before, first-is, first-none}
+use Rattle.lists.proofs.CountLaws.{decided, lt-or-ge, same-test}
 use Rattle.lists.proofs.TellLaws.{first-same}
 use Rattle.model.specs.Site.{A, lawful, raised, full, limit, room}
 use Rattle.model.specs.Plan.{Record, threads}
 use Rattle.model.specs.NetRules.{Book}
 use Rattle.model.proofs.SiteLaws.{A-one, lawful-at, full-is, is-full}
-use Rattle.model.proofs.CountsLaws.{more}
 use Rattle.rooms.specs.Rooms.{no-room, one-less, one-more, Taking, Giving, Limited}
 use Rattle.moves.specs.Held.{room-byte, RoomsTell}
 

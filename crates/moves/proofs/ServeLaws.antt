@@ -1,24 +1,22 @@
 -- What `moves::serve` does to the arrays: the first key between the site's place and its limit is that of the oldest call that may be admitted; it becomes 0,
 -- and the rooms of that call's level and below lose one. Assumes nothing.
-use Prim.Native.Nat.{ℕ, suc, _+_, _-_, _*_, _≤_, _<_}
+use Prim.Native.Nat.{ℕ, _+_, _-_, _*_, _≤_, _<_}
 use native.Mathlib.Omega.{arith}
 use mathlib.Core.Path.{_≡_, refl, sym, ap, subst, _∙_}
-use mathlib.Core.Bool.{Bool, true, false, cond}
+use mathlib.Core.Bool.{Bool, cond}
 use mathlib.Core.List.{List}
 use mathlib.Core.Option.{Option, none, some}
 use lib.ListN.{length, getD, set}
-use lib.Dec.{eqb}
 use borrow.Author.Tests.{eq-eqb, ne-eqb}
-use Rattle.ids.specs.Limits.{sites, most-threads, most-open, no-ticket}
+use Rattle.ids.specs.Limits.{most-threads, most-open, no-ticket}
 use Rattle.lists.specs.Count.{first}
 use Rattle.lists.specs.Fill.{Filled, renewed}
 use Rattle.lists.specs.Pick.{any, first-place}
 use Rattle.lists.proofs.PickLaws.{changed-none, length-changed}
 use Rattle.lists.proofs.TellLaws.{place-inside, any-found, any-not-found}
 use Rattle.model.specs.Site.{raised}
-use Rattle.model.specs.Plan.{Record, threads}
-use Rattle.model.specs.Net.{Call, has-node, site-of, level-of, ticket-of, on, counts, admissible, limit-at, may-wake, waker, activated, woken}
-use Rattle.model.specs.NetRules.{Firm}
+use Rattle.model.specs.Plan.{Record}
+use Rattle.model.specs.Net.{Call, site-of, level-of, ticket-of, on, counts, may-wake, waker, activated, woken}
 use Rattle.model.proofs.PlaceLaws.{threads-most, level-small}
 use Rattle.model.proofs.CountsLaws.{more, counts-woken}
 use Rattle.model.proofs.FirmLaws.{waker-fits, woken-firm}

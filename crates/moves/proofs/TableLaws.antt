@@ -1,26 +1,25 @@
 -- The arrays of open calls under opening, closing and waking, and what the searches in them find: each array tells one number of each call, place by place.
 -- Assumes nothing.
-use Prim.Native.Nat.{ℕ, zero, suc, _+_, _*_, _≤_, _<_}
+use Prim.Native.Nat.{ℕ, zero, suc, _+_, _≤_, _<_}
 use native.Mathlib.Omega.{arith}
 use native.Mathlib.Numerals.{add-one}
 use mathlib.Core.Path.{_≡_, refl, sym, ap, subst, _∙_}
-use mathlib.Core.Logic.{_⊎_, inl, inr, ⊎-elim}
-use mathlib.Core.Bool.{Bool, true, false, not, _&&_, cond}
+use mathlib.Core.Logic.{⊎-elim}
+use mathlib.Core.Bool.{Bool, cond}
 use mathlib.Core.List.{List, [], _∷_, _++_}
 use mathlib.Core.Option.{Option, none, some}
 use lib.ListN.{length, getD, set, length-set}
 use lib.Seq.{getD-set-same, getD-set-other}
-use lib.Dec.{ltb, leb, eqb}
-use borrow.Author.Tests.{eq-eqb, ne-eqb, eqb-true, lt-ltb, le-ltb, lt-leb, le-leb, eqb-false}
-use Rattle.ids.specs.Limits.{most-threads, most-open}
+use lib.Dec.{eqb}
+use borrow.Author.Tests.{ne-eqb, eqb-true, lt-ltb, le-ltb, eqb-false}
+use Rattle.ids.specs.Limits.{most-open}
 use Rattle.lists.specs.Count.{first, some as holds-below}
 use Rattle.lists.specs.Pick.{any, found, without, changed, tell, passes-at, first-place}
-use Rattle.lists.proofs.CountLaws.{decided, never-both, lt-or-ge}
+use Rattle.lists.proofs.CountLaws.{decided, lt-or-ge}
 use Rattle.lists.proofs.TellLaws.{first-same, some-same, tell-past, tell-more, place-inside, tell-place, tell-without, tell-changed, tell-blind, first-passes, some-passes, any-found, any-not-found}
-use Rattle.model.specs.Plan.{Record}
-use Rattle.model.specs.Net.{Call, site-of, level-of, has, lookup, is-child, activated}
-use Rattle.table.specs.Places.{holds, Table, Searched, next-of, Closing}
-use Rattle.moves.specs.Held.{Tells, key-of}
+use Rattle.model.specs.Net.{Call, has, lookup, is-child}
+use Rattle.table.specs.Places.{holds, Table, next-of, Closing}
+use Rattle.moves.specs.Held.{Tells}
 
 -- an array that tells the calls is a table with zeros past their count
 pub tells-table : {g : Call → ℕ} {cs : List Call} {numbers : List ℕ} {used : ℕ} → Tells g cs numbers → used ≡ length cs → length cs ≤ most-open

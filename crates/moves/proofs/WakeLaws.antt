@@ -3,19 +3,17 @@
 use Prim.Native.Nat.{ℕ, zero, suc, _+_, _*_, _≤_, _<_}
 use native.Mathlib.Omega.{arith}
 use mathlib.Core.Path.{_≡_, refl, sym, ap, _∙_}
-use mathlib.Core.Logic.{⊎-elim}
 use mathlib.Core.Bool.{Bool, true, false, not, _&&_, cond}
-use mathlib.Core.List.{List, [], _∷_, List·Memᴰ, List·Memᴰ·head, List·Memᴰ·tail}
-use lib.ListN.{length, getD}
+use mathlib.Core.List.{List, [], _∷_}
 use lib.Dec.{ltb, leb, eqb}
-use borrow.Author.Tests.{eq-eqb, ne-eqb, eqb-true, eqb-false, lt-ltb, le-ltb, lt-leb, le-leb, ltb-true, leb-true}
+use borrow.Author.Tests.{eq-eqb, eqb-true, lt-ltb, le-ltb, le-leb, ltb-true, leb-true}
 use Rattle.ids.specs.Limits.{most-threads, most-open}
 use Rattle.lists.specs.Count.{first}
 use Rattle.lists.specs.Pick.{any, tell, passes-at, first-place}
 use Rattle.lists.proofs.CountLaws.{and-left, and-right, and-both, same-test, first-le}
 use Rattle.lists.proofs.TellLaws.{first-same, first-passes}
 use Rattle.model.specs.Site.{limit, full}
-use Rattle.model.specs.Plan.{Record, threads, six, passes}
+use Rattle.model.specs.Plan.{Record, threads}
 use Rattle.model.specs.Net.{Call, site-of, level-of, on, waits-on, counts, admissible, limit-at, may-wake}
 use Rattle.model.specs.NetRules.{Firm}
 use Rattle.model.proofs.AdmitLaws.{admissible-limit}

@@ -4,14 +4,13 @@ use Prim.Native.Nat.{ℕ, _+_, _-_, _*_, _<_}
 use mathlib.Core.Path.{_≡_}
 use mathlib.Core.Bool.{Bool, true, cond}
 use mathlib.Core.List.{List}
-use mathlib.Core.Option.{some}
 use lib.ListN.{length, getD}
 use lib.Dec.{ltb}
 use Rattle.ids.specs.Limits.{sites, most-threads, most-open}
 use Rattle.lists.specs.Pick.{tell, first-place}
 use Rattle.model.specs.Site.{room}
 use Rattle.model.specs.Plan.{Record, threads}
-use Rattle.model.specs.Net.{Call, has-node, site-of, level-of, has, lookup, counts, ticket-of, admissible, opened, closed, waker, woken}
+use Rattle.model.specs.Net.{Call, has-node, site-of, level-of, has, counts, ticket-of, admissible, opened, closed, waker, woken}
 use Rattle.model.specs.NetRules.{Book, Firm, Newcomer, Ending}
 
 -- an array holds a number of each open call, in their order, and zeros behind them

@@ -1,7 +1,7 @@
 -- The lowest full level as a minimum over all levels: once it has been passed it is the minimum so far, and before that the threads are. Assumes nothing.
 use Prim.Native.Nat.{ℕ, _+_, _≤_, _<_, min}
 use native.Mathlib.Omega.{arith}
-use mathlib.Core.Path.{_≡_, refl, sym, ap, subst, _∙_}
+use mathlib.Core.Path.{_≡_, refl, sym, ap, _∙_}
 use mathlib.Core.Logic.{_⊎_, inl, inr, ⊎-elim}
 use mathlib.Core.Bool.{Bool, true, false, cond}
 use mathlib.Core.List.{List}
@@ -10,7 +10,7 @@ use lib.Dec.{eqb}
 use borrow.Author.Tests.{ne-eqb}
 use Rattle.ids.specs.Limits.{most-threads}
 use Rattle.lists.specs.Count.{first}
-use Rattle.lists.proofs.CountLaws.{decided, lt-or-ge, never-both, first-le, first-holds, first-before, first-is, first-none}
+use Rattle.lists.proofs.CountLaws.{decided, lt-or-ge, never-both, first-holds, first-before, first-is, first-none}
 use Rattle.lists.proofs.BlockLaws.{first-passed, first-here}
 use Rattle.rooms.specs.Rooms.{no-room, Limited}
 

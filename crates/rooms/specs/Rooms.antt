@@ -1,6 +1,5 @@
 -- What the rooms in an array say, for the contracts of `rooms`. The room of level k of a site stands at `base + k`. Assumes nothing.
 use Prim.Native.Nat.{ℕ, _+_, _-_, _≤_, _<_}
-use mathlib.Core.Path.{_≡_}
 use mathlib.Core.Bool.{Bool}
 use mathlib.Core.List.{List}
 use lib.ListN.{length, getD}

@@ -1,16 +1,16 @@
 -- A search by blocks that has passed the count has found nothing, since zeros stand behind it and none of the tests holds of a zero. Assumes nothing.
-use Prim.Native.Nat.{ℕ, _+_, _%_, _≤_, _<_}
+use Prim.Native.Nat.{ℕ, _+_, _≤_, _<_}
 use native.Mathlib.Omega.{arith}
-use mathlib.Core.Path.{_≡_, refl, sym, ap, _∙_}
+use mathlib.Core.Path.{_≡_, refl, sym, ap}
 use mathlib.Core.Logic.{⊎-elim}
 use mathlib.Core.Bool.{Bool, true, false, _&&_}
 use mathlib.Core.List.{List}
 use lib.ListN.{getD}
-use lib.Dec.{leb, ltb, eqb}
+use lib.Dec.{leb}
 use borrow.Author.Tests.{ne-eqb, le-ltb}
 use Rattle.ids.specs.Limits.{most-open}
 use Rattle.lists.specs.Count.{some, first}
-use Rattle.lists.proofs.CountLaws.{lt-or-ge, never-both, not-true-false, first-before, first-none, first-holds}
+use Rattle.lists.proofs.CountLaws.{lt-or-ge, never-both, first-before, first-none, first-holds}
 use Rattle.lists.proofs.BlockLaws.{some-none, none-some, some-holds}
 use Rattle.table.specs.Places.{holds, between, Table, Searched}
 

@@ -1,6 +1,6 @@
 -- `faults::call_fault` meets its contract: each way out is a rung of the ladder of a call's tests. Assumes nothing.
 use native.Mathlib.Omega.{arith}
-use mathlib.Core.Path.{_≡_, sym, ap, _∙_}
+use mathlib.Core.Path.{_≡_, ap, _∙_}
 use mathlib.Core.List.{List}
 use Rattle.lists.proofs.CountLaws.{denied, granted}
 use Rattle.ids.specs.Limits.{no-ticket}

@@ -1,8 +1,8 @@
 -- `moves::open` meets its contract. Whichever net the arrays hold, the level is below the limit exactly where the call may be admitted; then the laws of an
 -- opening say what the stores leave. Assumes nothing.
 use native.Mathlib.Omega.{arith}
-use mathlib.Core.Path.{_≡_, sym}
-use Rattle.moves.proofs.OpenLaws.{site-inside, level-inside, limit-fits, admits, holds-back, take-fits, opened-active, opened-waiting}
+use mathlib.Core.Path.{sym}
+use Rattle.moves.proofs.OpenLaws.{limit-fits, admits, holds-back, take-fits, opened-active, opened-waiting}
 use borrow.Author.Needs.{needs}
 use Rattle.moves.proofs.open.Statement.{statement}
 use Rattle.moves.proofs.open.Tie as tie

@@ -1,7 +1,6 @@
 -- `moves::serve` meets its contract. What the search among the keys finds is whom the definitions wake, or nobody; the laws of a waking say what the stores
 -- leave. Assumes nothing.
 use native.Mathlib.Omega.{arith}
-use Rattle.moves.specs.Held.{arrays, CanServe}
 use Rattle.moves.proofs.OpenLaws.{site-limited}
 use Rattle.moves.proofs.TableLaws.{tells-table}
 use Rattle.moves.proofs.ServeLaws.{limit-most, Chosen, chosen-one, chosen-takes, served, unserved}

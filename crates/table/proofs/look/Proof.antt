@@ -1,5 +1,5 @@
 -- `table::look` meets its contract. The loop's invariant: the number does not stand in the first j places of the block. Assumes nothing.
-use Prim.Native.Nat.{_+_, _-_, _≤_}
+use Prim.Native.Nat.{_-_, _≤_}
 use native.Mathlib.Omega.{arith}
 use borrow.Author.Tests.{eq-eqb, ne-eqb}
 use Rattle.lists.specs.Count.{first}

@@ -1,5 +1,5 @@
 -- `table::oldest` meets its contract. The loop's invariant: no such number stands in the first j places of the block. Assumes nothing.
-use Prim.Native.Nat.{_+_, _-_, _≤_}
+use Prim.Native.Nat.{_-_, _≤_}
 use native.Mathlib.Omega.{arith}
 use Rattle.lists.specs.Count.{first}
 use Rattle.lists.proofs.BlockLaws.{first-passed, first-here, first-end}

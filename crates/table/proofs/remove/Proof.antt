@@ -1,6 +1,6 @@
 -- `table::remove` meets its contract. The loop's invariant: in each array the places from the gap up to i hold what stood one place further. Behind the
 -- last number stood a zero, so that the zero at the end is one more such place. Assumes nothing.
-use Prim.Native.Nat.{_+_, _-_, _≤_}
+use Prim.Native.Nat.{_-_, _≤_}
 use native.Mathlib.Omega.{arith}
 use Rattle.table.specs.Places.{Closings}
 use Rattle.table.proofs.GapLaws.{gap-turn, gap-end, gaps-open}

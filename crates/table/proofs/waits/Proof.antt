@@ -1,5 +1,5 @@
 -- `table::waits` meets its contract. The loop's invariant: whether such a number stands in the first j places of the block. Assumes nothing.
-use Prim.Native.Nat.{_+_, _-_, _≤_}
+use Prim.Native.Nat.{_-_, _≤_}
 use native.Mathlib.Omega.{arith}
 use mathlib.Core.Path.{_≡_, refl, sym}
 use Rattle.lists.specs.Count.{some}
