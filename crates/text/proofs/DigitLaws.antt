@@ -9,7 +9,8 @@ use lib.ListN.{length, length-append}
 use borrow.Author.Tests.{lt-ltb, le-ltb}
 use Rattle.lists.proofs.CountLaws.{lt-or-ge}
 use Rattle.model.specs.Text.{Text, digit, decimal-in, decimal, most-digits, spaced}
-use Rattle.text.specs.Lines.{pair-text, number-room, long-room}
+use Rattle.text.specs.Lines.{pair-text}
+use Rattle.text.specs.Room.{number-room, long-room}
 
 -- One digit, and one more behind those of the tenth
 

@@ -56,3 +56,7 @@ module _ (old : List ℕ) (at a b : ℕ) where
   module _ (c : ℕ) where
     pub put-3 : Put old at (a ∷ b ∷ c ∷ []) (set (set (set old at a) (at + 1) b) (at + 2) c) (at + 3)
     put-3 = put-store (at + 2) c (at + 3) refl (omega arith) put-2
+
+    module _ (d : ℕ) where
+      pub put-4 : Put old at (a ∷ b ∷ c ∷ d ∷ []) (set (set (set (set old at a) (at + 1) b) (at + 2) c) (at + 3) d) (at + 4)
+      put-4 = put-store (at + 3) d (at + 4) refl (omega arith) put-3

@@ -2,7 +2,7 @@
 use native.Mathlib.Omega.{arith}
 use mathlib.Core.Path.{refl}
 use lib.ListN.{length-set}
-use Rattle.text.specs.Lines.{number-room}
+use Rattle.text.specs.Room.{number-room}
 use Rattle.text.proofs.PutLaws.{put-2, put-3, put-then, put-store, put-as, put-long, room-left}
 use Rattle.text.proofs.DigitLaws.{spaced-most}
 use Rattle.text.proofs.LineLaws.{letter-ends, number-ends, refused-ends}

@@ -2,7 +2,8 @@
 use Prim.Native.Nat.{_+_}
 use native.Mathlib.Omega.{arith}
 use lib.ListN.{length-set}
-use Rattle.text.specs.Lines.{line2-text, number-room, answer-room}
+use Rattle.text.specs.Lines.{line2-text}
+use Rattle.text.specs.Room.{number-room, answer-room}
 use Rattle.text.proofs.PutLaws.{put-1, put-then, put-long, room-left}
 use Rattle.text.proofs.DigitLaws.{spaced-most}
 use borrow.Author.Needs.{needs}
