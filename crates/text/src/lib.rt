@@ -14,22 +14,32 @@ pub enum Printed {
     Refused(u8),
 }
 
-// Two digits.
+// The digit 0.
+const ZERO: u16 = 48;
+
+// Two digits. They are made as one number, the first in its low byte, so that the back end stores both at once.
 fn pair(text: &mut [u8], at: usize, n: u16) -> usize
     requires { ⌜ (n < 100) × (at + 2 ≤ length (now text)) ⌝ }
     ensures { λ r. ⌜ Put (now (text .entry)) at (pair-text n) (now (text .exit)) r ⌝ }
 {
-    text[at] = b'0' + (n / 10) as u8;
-    text[at + 1] = b'0' + (n % 10) as u8;
+    let two = (ZERO + n / 10) + 256 * (ZERO + n % 10);
+    text[at] = (two % 256) as u8;
+    text[at + 1] = (two / 256) as u8;
     at + 2
 }
 
-// A space and a number of up to five digits, straight on: it stands in every line.
+// A space and a number of up to five digits, straight on: it stands in every line. Most tickets have five.
 pub fn number(text: &mut [u8], at: usize, n: u16) -> usize
     requires { ⌜ at + number-room ≤ length (now text) ⌝ }
     ensures { λ r. ⌜ Put (now (text .entry)) at (spaced n) (now (text .exit)) r ⌝ }
 {
     text[at] = b' ';
+    if 10000 <= n {
+        text[at + 1] = b'0' + (n / 10000) as u8;
+        let rest = n % 10000;
+        let middle = pair(text, at + 2, rest / 100);
+        return pair(text, middle, rest % 100);
+    }
     if n < 10 {
         text[at + 1] = b'0' + n as u8;
         return at + 2;
@@ -41,12 +51,7 @@ pub fn number(text: &mut [u8], at: usize, n: u16) -> usize
         text[at + 1] = b'0' + (n / 100) as u8;
         return pair(text, at + 2, n % 100);
     }
-    if n < 10000 {
-        let middle = pair(text, at + 1, n / 100);
-        return pair(text, middle, n % 100);
-    }
-    text[at + 1] = b'0' + (n / 10000) as u8;
-    let middle = pair(text, at + 2, n / 100 % 100);
+    let middle = pair(text, at + 1, n / 100);
     pair(text, middle, n % 100)
 }
 
