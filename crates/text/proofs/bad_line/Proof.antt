@@ -1,5 +1,5 @@
 -- `text::bad_line` meets its contract: three stores, two numbers and the newline. Assumes nothing.
-use Prim.Native.Nat.{_+_, _*_, _≤_}
+use Prim.Native.Nat.{_+_, _≤_}
 use native.Mathlib.Omega.{arith}
 use mathlib.Core.Path.{refl}
 use lib.ListN.{length, length-set}
@@ -39,7 +39,8 @@ unfolding bad-line
 returns c =
     let second = c .before .before in
     let first = second .before .before .before .before in
-    put-store _ _ _ refl refl (put-then (put-then (put-3 _ _ _ _ _) (first .number .ensures)) (second .long-number .ensures))
+    put-store _ _ _ refl refl (slice-write-text-4 c)
+    (put-then (put-then (put-3 _ _ _ _ _ (omega arith)) (first .number .ensures)) (second .long-number .ensures))
 
 same-length : tie.Need-same-length
 same-length c = put-long (returns c)

@@ -1,8 +1,7 @@
 -- `text::done_line` meets its contract: four stores, a number and the newline. Assumes nothing.
-use Prim.Native.Nat.{_+_, _*_, _≤_}
 use native.Mathlib.Omega.{arith}
 use mathlib.Core.Path.{refl}
-use lib.ListN.{length, length-set}
+use lib.ListN.{length-set}
 use Rattle.model.specs.Text.{done-line}
 use Rattle.text.specs.Room.{long-room}
 use Rattle.text.proofs.PutLaws.{put-4, put-then, put-store, put-long, room-left}
@@ -30,7 +29,7 @@ slice-write-text-5 c =
 
 returns : tie.Need-returns
 unfolding done-line
-returns c = put-store _ _ _ refl refl (put-then (put-4 _ _ _ _ _ _) (c .before .before .long-number .ensures))
+returns c = put-store _ _ _ refl refl (slice-write-text-5 c) (put-then (put-4 _ _ _ _ _ _ (omega arith)) (c .before .before .long-number .ensures))
 
 same-length : tie.Need-same-length
 same-length c = put-long (returns c)

@@ -22,7 +22,7 @@ unfolding line-text
 returns c =
     let told = c .before .before in
     let asked = told .before .before .before .before in
-    put-then (put-then (put-1 _ _ _) (asked .number .ensures)) (told .answer .ensures)
+    put-then (put-then (put-1 _ _ _ (omega arith)) (asked .number .ensures)) (told .answer .ensures)
 
 same-length : tie.Need-same-length
 same-length c = put-long (returns c)

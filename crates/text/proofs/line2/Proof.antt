@@ -31,7 +31,7 @@ returns c =
     let told = c .before .before in
     let asked = told .before .before .before .before in
     let half = asked .before .before .before .before in
-    put-then (put-then (put-then (put-1 _ _ _) (half .number .ensures)) (asked .number2 .ensures)) (told .answer .ensures)
+    put-then (put-then (put-then (put-1 _ _ _ (omega arith)) (half .number .ensures)) (asked .number2 .ensures)) (told .answer .ensures)
 
 same-length : tie.Need-same-length
 same-length c = put-long (returns c)

@@ -24,7 +24,7 @@ returns : tie.Need-returns
 returns c =
     let second = c .before .before in
     let first = second .before .before .before .before in
-    put-as (spaced-five _ (omega arith) (omega arith)) (put-then (put-then (put-2 _ _ _ _) (first .pair .ensures)) (second .pair2 .ensures))
+    put-as (spaced-five _ (omega arith) (omega arith)) (put-then (put-then (put-2 _ _ _ _ (omega arith)) (first .pair .ensures)) (second .pair2 .ensures))
 
 same-length : tie.Need-same-length
 same-length c = put-long (returns c)
@@ -35,7 +35,7 @@ slice-write-text-3 : tie.Need-slice-write-text-3
 slice-write-text-3 c = simp length-set (omega arith)
 
 returns-2 : tie.Need-returns-2
-returns-2 c = put-as (spaced-one _ (omega arith)) (put-2 _ _ _ _)
+returns-2 c = put-as (spaced-one _ (omega arith)) (put-2 _ _ _ _ (omega arith))
 
 -- Two digits
 
@@ -43,7 +43,7 @@ pair-requires-3 : tie.Need-pair-requires-3
 pair-requires-3 c κs = simp length-set (omega arith, omega arith)
 
 returns-3 : tie.Need-returns-3
-returns-3 c = put-as (spaced-two _ (omega arith) (omega arith)) (put-then (put-1 _ _ _) (c .before .before .pair3 .ensures))
+returns-3 c = put-as (spaced-two _ (omega arith) (omega arith)) (put-then (put-1 _ _ _ (omega arith)) (c .before .before .pair3 .ensures))
 
 same-length-3 : tie.Need-same-length-3
 same-length-3 c = put-long (returns-3 c)
@@ -57,7 +57,7 @@ pair-requires-4 : tie.Need-pair-requires-4
 pair-requires-4 c κs = simp length-set (omega arith, omega arith)
 
 returns-4 : tie.Need-returns-4
-returns-4 c = put-as (spaced-three _ (omega arith) (omega arith)) (put-then (put-2 _ _ _ _) (c .before .before .pair4 .ensures))
+returns-4 c = put-as (spaced-three _ (omega arith) (omega arith)) (put-then (put-2 _ _ _ _ (omega arith)) (c .before .before .pair4 .ensures))
 
 same-length-4 : tie.Need-same-length-4
 same-length-4 c = put-long (returns-4 c)
@@ -76,7 +76,7 @@ returns-5 : tie.Need-returns-5
 returns-5 c =
     let second = c .before .before in
     let first = second .before .before .before .before in
-    put-as (spaced-four _ (omega arith) (omega arith)) (put-then (put-then (put-1 _ _ _) (first .pair5 .ensures)) (second .pair6 .ensures))
+    put-as (spaced-four _ (omega arith) (omega arith)) (put-then (put-then (put-1 _ _ _ (omega arith)) (first .pair5 .ensures)) (second .pair6 .ensures))
 
 same-length-5 : tie.Need-same-length-5
 same-length-5 c = put-long (returns-5 c)

@@ -11,7 +11,7 @@ slice-write-text-2 : tie.Need-slice-write-text-2
 slice-write-text-2 c = simp length-set (omega arith)
 
 returns : tie.Need-returns
-returns c = put-as (pair-stored _ (omega arith)) (put-2 _ _ _ _)
+returns c = put-as (pair-stored _ (omega arith)) (put-2 _ _ _ _ (omega arith))
 
 pub pair-spec : {M : Type 1} → statement M
 pair-spec =

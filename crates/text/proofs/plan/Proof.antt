@@ -16,7 +16,7 @@ slice-write-text-4 : tie.Need-slice-write-text-4
 slice-write-text-4 c = simp length-set (omega arith)
 
 returns : tie.Need-returns
-returns c = put-4 _ _ _ _ _ _
+returns c = put-4 _ _ _ _ _ _ (omega arith)
 
 pub plan-spec : {M : Type 1} → statement M
 plan-spec =

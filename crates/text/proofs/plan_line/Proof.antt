@@ -52,7 +52,7 @@ returns c =
     let first = second .before .before .before .before in
     let word = first .before .before .before .before in
     let two = put-then (put-then (word .plan .ensures) (first .long-number .ensures)) (second .long-number2 .ensures) in
-    put-store _ _ _ refl refl (put-then (put-then two (third .long-number3 .ensures)) (fourth .long-number4 .ensures))
+    put-store _ _ _ refl refl (slice-write-text c) (put-then (put-then two (third .long-number3 .ensures)) (fourth .long-number4 .ensures))
 
 same-length : tie.Need-same-length
 same-length c = put-long (returns c)
