@@ -1,15 +1,16 @@
 -- The digits of a number, two at a time where it has up to five, and by its tenth otherwise; and how many there are at the most. Assumes nothing.
-use Prim.Native.Nat.{ℕ, zero, suc, _+_, _/_, _%_, _^_, _≤_, _<_}
+use Prim.Native.Nat.{ℕ, zero, suc, _+_, _*_, _/_, _%_, _^_, _≤_, _<_}
 use native.Mathlib.Nat.{pow-suc}
 use native.Mathlib.Omega.{arith}
-use mathlib.Core.Path.{_≡_, refl, sym, ap, _∙_}
+use mathlib.Core.Path.{_≡_, sym, ap, _∙_}
 use mathlib.Core.Logic.{⊎-elim}
-use mathlib.Core.List.{List, [], _∷_, _++_, append-assoc}
+use mathlib.Core.List.{[], _∷_, _++_, append-assoc}
 use lib.ListN.{length, length-append}
 use borrow.Author.Tests.{lt-ltb, le-ltb}
 use Rattle.lists.proofs.CountLaws.{lt-or-ge}
 use Rattle.model.specs.Text.{Text, digit, decimal-in, decimal, most-digits, spaced}
-use Rattle.text.specs.Lines.{pair-text, number-room, long-room}
+use Rattle.text.specs.Lines.{pair-text}
+use Rattle.text.specs.Room.{number-room, long-room}
 
 -- One digit, and one more behind those of the tenth
 
@@ -22,6 +23,17 @@ unfolding decimal-in
 in-more places n h = rw (le-ltb n 10 h)
 
 -- Up to five digits, by pairs
+
+-- both digits in one number, the first in its low byte
+abbrev pub in-one-number : ℕ → ℕ
+in-one-number n = digit (n / 10) + 256 * digit (n % 10)
+
+pub pair-stored : (n : ℕ) → n < 100 → in-one-number n % 256 ∷ in-one-number n / 256 ∷ [] ≡ pair-text n
+unfolding pair-text
+pair-stored n h =
+    let first : in-one-number n % 256 ≡ digit (n / 10) = omega arith in
+    let second : in-one-number n / 256 ≡ digit (n % 10) = omega arith in
+    cc
 
 in-two : (places n : ℕ) → 10 ≤ n → n < 100 → decimal-in (suc (suc places)) n ≡ pair-text n
 unfolding pair-text
@@ -47,13 +59,15 @@ in-four places n low high =
     in-pair (suc (suc places)) n (omega arith)
     ∙ ap (λ (ds : Text). ds ++ pair-text (n % 100)) (in-two places (n / 100) (omega arith) (omega arith))
 
-in-five : (places n : ℕ) → 10000 ≤ n → n < 100000
-    → decimal-in (suc (suc (suc (suc (suc places))))) n ≡ (digit (n / 10000) ∷ pair-text (n / 100 % 100)) ++ pair-text (n % 100)
+in-five : (places n : ℕ) → 10000 ≤ n → n < 100000 → decimal-in (suc (suc (suc (suc (suc places))))) n
+    ≡ (digit (n / 10000) ∷ pair-text (n % 10000 / 100)) ++ pair-text (n % 10000 % 100)
 in-five places n low high =
     let first : n / 100 / 100 ≡ n / 10000 = omega arith in
+    let middle : n / 100 % 100 ≡ n % 10000 / 100 = omega arith in
+    let last : n % 100 ≡ n % 10000 % 100 = omega arith in
     in-pair (suc (suc (suc places))) n (omega arith)
     ∙ ap (λ (ds : Text). ds ++ pair-text (n % 100)) (in-three places (n / 100) (omega arith) (omega arith))
-    ∙ ap (λ (d : ℕ). (digit d ∷ pair-text (n / 100 % 100)) ++ pair-text (n % 100)) first
+    ∙ cc
 
 -- the same behind a space, as the stores leave them
 
@@ -74,7 +88,8 @@ module _ (n : ℕ) where
   unfolding spaced decimal
   spaced-four low high = ap (λ (ds : Text). 32 ∷ ds) (sym (in-four 16 n low high))
 
-  pub spaced-five : 10000 ≤ n → n < 100000 → (32 ∷ digit (n / 10000) ∷ []) ++ pair-text (n / 100 % 100) ++ pair-text (n % 100) ≡ spaced n
+  pub spaced-five : 10000 ≤ n → n < 100000
+      → (32 ∷ digit (n / 10000) ∷ []) ++ pair-text (n % 10000 / 100) ++ pair-text (n % 10000 % 100) ≡ spaced n
   unfolding spaced decimal
   spaced-five low high = ap (λ (ds : Text). 32 ∷ ds) (sym (in-five 15 n low high))
 

@@ -1,11 +1,12 @@
 -- The texts that are put are the model's: each answer's by its kind, and each command's line by its letter. Assumes nothing.
-use Prim.Native.Nat.{ℕ, _+_, _≤_, _<_}
+use Prim.Native.Nat.{ℕ}
 use mathlib.Core.Path.{_≡_, refl, sym, ap, _∙_}
-use mathlib.Core.List.{List, [], _∷_, _++_, append-assoc}
-use Rattle.model.specs.Command.{Command, start, call, return, Answer, refused, active, waiting, ended, Standing, is-running, is-waiting, not-open, Roomed, has-room, no-answer, step, ask, room-at}
+use mathlib.Core.List.{[], _∷_, _++_, append-assoc}
+use Rattle.model.specs.Command.{start, call, return, Answer, refused, active, waiting, ended, step}
+use Rattle.model.specs.Command.{Standing, is-running, is-waiting, not-open, ask, Roomed, has-room, no-answer, room-at}
 use Rattle.model.specs.Net.{Core}
 use Rattle.model.specs.Text.{Text, spaced, newline, answer-text, standing-text, room-text, command-text, ask-text, room-asked-text}
-use Rattle.model.specs.Transcript.{Request, command, question, room-question, line}
+use Rattle.model.specs.Transcript.{command, question, room-question, line}
 use Rattle.text.specs.Lines.{printed, answer-end, line-text, line2-text}
 use Rattle.text.specs.declared.Printed.{Printed}
 use Rattle.text.specs.declared.Printed.the-variants.{Letter, Number, Refused}

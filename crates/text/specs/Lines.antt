@@ -1,4 +1,4 @@
--- The items and lines that `text` writes, in the model's words, and the room that each may need. Assumes nothing.
+-- The items and lines that `text` writes, in the model's words. Assumes nothing.
 use Prim.Native.Nat.{ℕ, _/_, _%_}
 use mathlib.Core.List.{[], _∷_, _++_}
 use Rattle.model.specs.Text.{Text, digit, spaced, refusal-text, newline}
@@ -26,21 +26,3 @@ line-text letter first what = (letter ∷ spaced first) ++ answer-end what
 -- a line with two numbers, as `C` parent ticket and the answer
 unfoldable pub line2-text : ℕ → ℕ → ℕ → Printed → Text
 line2-text letter first second what = (letter ∷ spaced first) ++ spaced second ++ answer-end what
-
--- The room for each, in bytes
-
--- a space and five digits
-abbrev pub number-room : ℕ
-number-room = 6
-
--- a space and twenty digits
-abbrev pub long-room : ℕ
-long-room = 21
-
--- a space, `R`, a number and the newline
-abbrev pub answer-room : ℕ
-answer-room = 9
-
--- a letter, two numbers and an answer with its newline
-abbrev pub line-room : ℕ
-line-room = 22

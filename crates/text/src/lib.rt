@@ -2,9 +2,10 @@
 // `bench` alone call it, and leave room for what is written.
 ghost use Prim.Native.Nat.{_+_, _≤_, _<_};
 ghost use lib.ListN.{length};
-ghost use Rattle.model.specs.Text.{decimal, spaced};
+ghost use Rattle.model.specs.Text.{ascii, decimal, spaced, plan-line, plan-refused-line, done-line, bad-line};
 ghost use Rattle.text.specs.Put.{Put};
-ghost use Rattle.text.specs.Lines.{pair-text, answer-end, line-text, line2-text, number-room, long-room, answer-room, line-room};
+ghost use Rattle.text.specs.Lines.{pair-text, answer-end, line-text, line2-text};
+ghost use Rattle.text.specs.Room.{number-room, long-room, answer-room, line-room, word-room, plan-room, plan-refused-room, done-room, bad-room};
 
 // An answer: a letter, a number, or a refusal's number.
 pub enum Printed {
@@ -13,22 +14,32 @@ pub enum Printed {
     Refused(u8),
 }
 
-// Two digits.
+// The digit 0.
+const ZERO: u16 = 48;
+
+// Two digits. They are made as one number, the first in its low byte, so that the back end stores both at once.
 fn pair(text: &mut [u8], at: usize, n: u16) -> usize
     requires { ⌜ (n < 100) × (at + 2 ≤ length (now text)) ⌝ }
     ensures { λ r. ⌜ Put (now (text .entry)) at (pair-text n) (now (text .exit)) r ⌝ }
 {
-    text[at] = b'0' + (n / 10) as u8;
-    text[at + 1] = b'0' + (n % 10) as u8;
+    let two = (ZERO + n / 10) + 256 * (ZERO + n % 10);
+    text[at] = (two % 256) as u8;
+    text[at + 1] = (two / 256) as u8;
     at + 2
 }
 
-// A space and a number of up to five digits, straight on: it stands in every line.
+// A space and a number of up to five digits, straight on: it stands in every line. Most tickets have five.
 pub fn number(text: &mut [u8], at: usize, n: u16) -> usize
     requires { ⌜ at + number-room ≤ length (now text) ⌝ }
     ensures { λ r. ⌜ Put (now (text .entry)) at (spaced n) (now (text .exit)) r ⌝ }
 {
     text[at] = b' ';
+    if 10000 <= n {
+        text[at + 1] = b'0' + (n / 10000) as u8;
+        let rest = n % 10000;
+        let middle = pair(text, at + 2, rest / 100);
+        return pair(text, middle, rest % 100);
+    }
     if n < 10 {
         text[at + 1] = b'0' + n as u8;
         return at + 2;
@@ -40,12 +51,7 @@ pub fn number(text: &mut [u8], at: usize, n: u16) -> usize
         text[at + 1] = b'0' + (n / 100) as u8;
         return pair(text, at + 2, n % 100);
     }
-    if n < 10000 {
-        let middle = pair(text, at + 1, n / 100);
-        return pair(text, middle, n % 100);
-    }
-    text[at + 1] = b'0' + (n / 10000) as u8;
-    let middle = pair(text, at + 2, n / 100 % 100);
+    let middle = pair(text, at + 1, n / 100);
     pair(text, middle, n % 100)
 }
 
@@ -125,4 +131,79 @@ pub fn line2(
     let half = number(text, at + 1, first);
     let asked = number(text, half, second);
     answer(text, asked, what)
+}
+
+// The word that begins the first line.
+fn plan(text: &mut [u8], at: usize) -> usize
+    requires { ⌜ at + word-room ≤ length (now text) ⌝ }
+    ensures { λ r. ⌜ Put (now (text .entry)) at (ascii "plan") (now (text .exit)) r ⌝ }
+{
+    text[at] = b'p';
+    text[at + 1] = b'l';
+    text[at + 2] = b'a';
+    text[at + 3] = b'n';
+    at + 4
+}
+
+// The first line, of a plan that is accepted.
+pub fn plan_line(
+    text: &mut [u8],
+    at: usize,
+    sites: usize,
+    nodes: usize,
+    edges: usize,
+    bytes: usize,
+) -> usize
+    requires { ⌜ at + plan-room ≤ length (now text) ⌝ }
+    ensures { λ r. ⌜ Put (now (text .entry)) at (plan-line sites nodes edges bytes) (now (text .exit)) r ⌝ }
+{
+    let word = plan(text, at);
+    let first = long_number(text, word, sites);
+    let second = long_number(text, first, nodes);
+    let third = long_number(text, second, edges);
+    let fourth = long_number(text, third, bytes);
+    text[fourth] = b'\n';
+    fourth + 1
+}
+
+// The first line, of a plan that is refused.
+pub fn plan_refused_line(text: &mut [u8], at: usize, refusal: u8, offset: usize) -> usize
+    requires { ⌜ at + plan-refused-room ≤ length (now text) ⌝ }
+    ensures { λ r. ⌜ Put (now (text .entry)) at (plan-refused-line refusal offset) (now (text .exit)) r ⌝ }
+{
+    let word = plan(text, at);
+    text[word] = b' ';
+    text[word + 1] = b'R';
+    let first = number(text, word + 2, refusal as u16);
+    let second = long_number(text, first, offset);
+    text[second] = b'\n';
+    second + 1
+}
+
+// The last line, of an input that ended behind a whole command.
+pub fn done_line(text: &mut [u8], at: usize, commands: usize) -> usize
+    requires { ⌜ at + done-room ≤ length (now text) ⌝ }
+    ensures { λ r. ⌜ Put (now (text .entry)) at (done-line commands) (now (text .exit)) r ⌝ }
+{
+    text[at] = b'd';
+    text[at + 1] = b'o';
+    text[at + 2] = b'n';
+    text[at + 3] = b'e';
+    let first = long_number(text, at + 4, commands);
+    text[first] = b'\n';
+    first + 1
+}
+
+// The last line, of an input that is cut or has a record of no known kind.
+pub fn bad_line(text: &mut [u8], at: usize, why: u8, offset: usize) -> usize
+    requires { ⌜ at + bad-room ≤ length (now text) ⌝ }
+    ensures { λ r. ⌜ Put (now (text .entry)) at (bad-line why offset) (now (text .exit)) r ⌝ }
+{
+    text[at] = b'b';
+    text[at + 1] = b'a';
+    text[at + 2] = b'd';
+    let first = number(text, at + 3, why as u16);
+    let second = long_number(text, first, offset);
+    text[second] = b'\n';
+    second + 1
 }

@@ -29,7 +29,7 @@ slice-write-text : (t : ℕ) → digits-lts.Need-slice-write-text (digits-below 
 slice-write-text t c = omega (arith, ap length (decimal-one (c .before .before .args .n) (omega arith)))
 
 returns : (t : ℕ) → digits-lts.Need-returns (digits-below t, digits.Post) (digits-at t) digits.Post
-returns t c = put-as (decimal-one _ (omega arith)) (put-1 _ _ _)
+returns t c = put-as (decimal-one _ (omega arith)) (put-1 _ _ _ (omega (arith, slice-write-text t c)))
 
 digits-requires : (t : ℕ) → digits-lts.Need-digits-requires (digits-below t, digits.Post) (digits-at t) digits.Post
 digits-requires t c κs =
@@ -40,8 +40,9 @@ slice-write-text-2 : (t : ℕ) → digits-lts.Need-slice-write-text-2 (digits-be
 slice-write-text-2 t c =
     let called = c .before .before in
     let start = called .before .before .before .before in
-    let tenth = length (decimal (start .args .n / 10)) in
-    let room = room-left tenth 1 (called .digits .ensures) (omega arith) (omega (arith, start .pre .1, decimal-longer (start .args .n) (omega arith) (omega arith))) in
+    let n = start .args .n in
+    let longer = decimal-longer n (omega arith) (omega arith) in
+    let room = room-left (length (decimal (n / 10))) 1 (called .digits .ensures) (omega arith) (omega (arith, start .pre .1, longer)) in
     omega arith
 
 add-result-2 : (t : ℕ) → digits-lts.Need-add-result-2 (digits-below t, digits.Post) (digits-at t) digits.Post
@@ -49,7 +50,7 @@ add-result-2 t c = omega (arith, slice-write-text-2 t c)
 
 returns-2 : (t : ℕ) → digits-lts.Need-returns-2 (digits-below t, digits.Post) (digits-at t) digits.Post
 returns-2 t c =
-    put-as (decimal-more _ (omega arith) (omega arith)) (put-store _ _ _ refl refl (c .before .before .digits .ensures))
+    put-as (decimal-more _ (omega arith) (omega arith)) (put-store _ _ _ refl refl (slice-write-text-2 t c) (c .before .before .digits .ensures))
 
 same-length-2 : (t : ℕ) → digits-lts.Need-same-length-2 (digits-below t, digits.Post) (digits-at t) digits.Post
 same-length-2 t c = put-long (returns-2 t c)

@@ -2,7 +2,7 @@
 use native.Mathlib.Omega.{arith}
 use mathlib.Core.Path.{refl}
 use lib.ListN.{length-set}
-use Rattle.text.specs.Lines.{number-room}
+use Rattle.text.specs.Room.{number-room}
 use Rattle.text.proofs.PutLaws.{put-2, put-3, put-then, put-store, put-as, put-long, room-left}
 use Rattle.text.proofs.DigitLaws.{spaced-most}
 use Rattle.text.proofs.LineLaws.{letter-ends, number-ends, refused-ends}
@@ -19,7 +19,7 @@ slice-write-text-3 : tie.Need-slice-write-text-3
 slice-write-text-3 c = simp length-set (omega arith)
 
 returns : tie.Need-returns
-returns c = put-as (letter-ends _ (c .before .what .given .1)) (put-3 _ _ _ _ _)
+returns c = put-as (letter-ends _ (c .before .what .given .1)) (put-3 _ _ _ _ _ (omega arith))
 
 -- A number
 
@@ -37,7 +37,7 @@ returns-2 : tie.Need-returns-2
 returns-2 c =
     let told = c .before .before in
     let known = told .before .before .before in
-    put-as (number-ends _ (known .what2 .given .1)) (put-store _ _ _ refl refl (told .number .ensures))
+    put-as (number-ends _ (known .what2 .given .1)) (put-store _ _ _ refl refl (slice-write-text-4 c) (told .number .ensures))
 
 -- A refusal
 
@@ -61,7 +61,8 @@ returns-3 : tie.Need-returns-3
 returns-3 c =
     let told = c .before .before in
     let known = told .before .before .before in
-    put-as (refused-ends _ (known .what3 .given .1)) (put-store _ _ _ refl refl (put-then (put-2 _ _ _ _) (told .number2 .ensures)))
+    put-as (refused-ends _ (known .what3 .given .1))
+    (put-store _ _ _ refl refl (slice-write-text-7 c) (put-then (put-2 _ _ _ _ (omega arith)) (told .number2 .ensures)))
 
 same-length-3 : tie.Need-same-length-3
 same-length-3 c = put-long (returns-3 c)

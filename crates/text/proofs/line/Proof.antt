@@ -1,7 +1,8 @@
 -- `text::line` meets its contract: a letter, a number and an answer, each with room for what follows. Assumes nothing.
 use native.Mathlib.Omega.{arith}
 use lib.ListN.{length-set}
-use Rattle.text.specs.Lines.{line-text, number-room, answer-room}
+use Rattle.text.specs.Lines.{line-text}
+use Rattle.text.specs.Room.{number-room, answer-room}
 use Rattle.text.proofs.PutLaws.{put-1, put-then, put-long, room-left}
 use Rattle.text.proofs.DigitLaws.{spaced-most}
 use borrow.Author.Needs.{needs}
@@ -21,7 +22,7 @@ unfolding line-text
 returns c =
     let told = c .before .before in
     let asked = told .before .before .before .before in
-    put-then (put-then (put-1 _ _ _) (asked .number .ensures)) (told .answer .ensures)
+    put-then (put-then (put-1 _ _ _ (omega arith)) (asked .number .ensures)) (told .answer .ensures)
 
 same-length : tie.Need-same-length
 same-length c = put-long (returns c)

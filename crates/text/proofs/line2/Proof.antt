@@ -2,7 +2,8 @@
 use Prim.Native.Nat.{_+_}
 use native.Mathlib.Omega.{arith}
 use lib.ListN.{length-set}
-use Rattle.text.specs.Lines.{line2-text, number-room, answer-room}
+use Rattle.text.specs.Lines.{line2-text}
+use Rattle.text.specs.Room.{number-room, answer-room}
 use Rattle.text.proofs.PutLaws.{put-1, put-then, put-long, room-left}
 use Rattle.text.proofs.DigitLaws.{spaced-most}
 use borrow.Author.Needs.{needs}
@@ -30,7 +31,7 @@ returns c =
     let told = c .before .before in
     let asked = told .before .before .before .before in
     let half = asked .before .before .before .before in
-    put-then (put-then (put-then (put-1 _ _ _) (half .number .ensures)) (asked .number2 .ensures)) (told .answer .ensures)
+    put-then (put-then (put-then (put-1 _ _ _ (omega arith)) (half .number .ensures)) (asked .number2 .ensures)) (told .answer .ensures)
 
 same-length : tie.Need-same-length
 same-length c = put-long (returns c)

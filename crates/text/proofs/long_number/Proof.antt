@@ -13,7 +13,7 @@ digits-requires c κs = simp length-set (omega (arith, decimal-most (c .before .
 
 returns : tie.Need-returns
 unfolding spaced
-returns c = put-then (put-1 _ _ _) (c .before .before .digits .ensures)
+returns c = put-then (put-1 _ _ _ (omega arith)) (c .before .before .digits .ensures)
 
 same-length : tie.Need-same-length
 same-length c = put-long (returns c)
