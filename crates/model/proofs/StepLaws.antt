@@ -59,7 +59,7 @@ module _ (net : Core) where
   abbrev rs : List Record
   rs = net .plan
 
-  start-fits : (ticket node : ℕ) → fault net (start ticket node) ≡ 0 → Newcomer rs cs no-ticket ticket node
+  pub start-fits : (ticket node : ℕ) → fault net (start ticket node) ≡ 0 → Newcomer rs cs no-ticket ticket node
   unfolding fault
   start-fits ticket node e =
       let w = first-fault-is 0 (start-tests rs cs ticket node) refl .0 e in
@@ -71,7 +71,7 @@ module _ (net : Core) where
         parent-fits = refl;
       }
 
-  call-fits : (parent ticket node : ℕ) → fault net (call parent ticket node) ≡ 0 → Newcomer rs cs parent ticket node
+  pub call-fits : (parent ticket node : ℕ) → fault net (call parent ticket node) ≡ 0 → Newcomer rs cs parent ticket node
   unfolding fault
   call-fits parent ticket node e =
       let w = first-fault-is 0 (call-tests rs cs parent ticket node) refl .0 e in

@@ -1,0 +1,5 @@
+pub mod SeenLaws
+pub mod AskLaws
+pub mod StandLaws
+pub mod EnterLaws
+pub mod LeaveLaws

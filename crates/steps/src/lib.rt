@@ -1,0 +1,194 @@
+// The requests inside a run, over the arrays that hold its net: what each answers, and the arrays left holding the net after it. An inner crate: `net` alone
+// calls it.
+ghost use mathlib.Core.Path.{_≡_};
+ghost use mathlib.Core.Bool.{cond};
+ghost use mathlib.Core.List.{List};
+ghost use Rattle.model.specs.Plan.{Record};
+ghost use Rattle.model.specs.Net.{Call, Core};
+ghost use Rattle.model.specs.Command.{active, waiting};
+ghost use Rattle.moves.specs.Held.{arrays};
+ghost use Rattle.faults.specs.Seen.{CallSeen};
+ghost use Rattle.text.proofs.LineLaws.{of-answer};
+ghost use Rattle.steps.specs.Running.{EntryFault, Enterable, Enters, Leavable, Leaves, AskSeen, Asks, RoomSeen, Rooms};
+use ids::Site;
+use ids::Ticket;
+use text::Printed;
+
+// How many calls are open then, and what is printed.
+pub struct Done {
+    pub used: usize,
+    pub what: Printed,
+}
+
+// What stands in the way of a call, or of a start.
+fn entry_fault<'a>(
+    tickets: &'a [u16],
+    keys: &'a [u16],
+    open_nodes: &'a [u8],
+    used: usize,
+    places: &'a [u8],
+    edges: &'a [u8],
+    called: bool,
+    parent: u16,
+    ticket: u16,
+    node: u8,
+) -> u8
+    requires { ⌜ ((rs : List Record) × (cs : List Call) × CallSeen rs cs (now tickets) (now keys) (now open_nodes) (now places) (now edges) used) ⌝ }
+    ensures { λ r. ⌜ EntryFault (now (tickets .entry)) (now (keys .entry)) (now (open_nodes .entry)) (now (places .entry)) (now (edges .entry)) used called parent ticket node r ⌝ }
+{
+    if called {
+        return faults::call_fault(
+            tickets,
+            keys,
+            open_nodes,
+            used,
+            places,
+            edges,
+            parent,
+            ticket,
+            node,
+        );
+    }
+    faults::start_fault(tickets, used, places, ticket, node)
+}
+
+// A newcomer is active, or waits.
+fn letter(admitted: bool) -> Printed
+    ensures { λ r. ⌜ r ≡ of-answer (cond admitted active waiting) ⌝ }
+{
+    if admitted {
+        return Printed::Letter(b'G');
+    }
+    Printed::Letter(b'W')
+}
+
+// A call, or a start, which has no parent.
+pub fn enter<'a>(
+    tickets: &mut [u16],
+    parents: &mut [u16],
+    keys: &mut [u16],
+    nodes: &mut [u8],
+    rooms: &mut [u8],
+    used: usize,
+    threads: &'a [u8],
+    places: &'a [u8],
+    levels: &'a [u8],
+    edges: &'a [u8],
+    called: bool,
+    parent: u16,
+    ticket: u16,
+    node: u8,
+) -> Done
+    requires { ⌜ Enterable (arrays (now tickets) (now parents) (now keys) (now nodes) (now rooms)) used (now threads) (now places) (now levels) (now edges) called parent ⌝ }
+    ensures { λ r. ⌜ Enters (arrays (now (tickets .entry)) (now (parents .entry)) (now (keys .entry)) (now (nodes .entry)) (now (rooms .entry))) (arrays (now (tickets .exit)) (now (parents .exit)) (now (keys .exit)) (now (nodes .exit)) (now (rooms .exit))) used (r .used) (r .what) (now (threads .entry)) (now (places .entry)) (now (levels .entry)) (now (edges .entry)) called parent ticket node ⌝ }
+{
+    let fault = entry_fault(
+        tickets,
+        keys,
+        nodes,
+        used,
+        places,
+        edges,
+        called,
+        parent,
+        ticket,
+        node,
+    );
+    if fault != 0 {
+        return Done {
+            used,
+            what: Printed::Refused(fault),
+        };
+    }
+    let site = places[node as usize];
+    let level = levels[node as usize];
+    let most = threads[site as usize];
+    let active = moves::open(
+        tickets,
+        parents,
+        keys,
+        nodes,
+        rooms,
+        used,
+        parent,
+        ticket,
+        node,
+        site,
+        level,
+        most,
+    );
+    Done {
+        used: used + 1,
+        what: letter(active),
+    }
+}
+
+// A return, and the oldest waiter that may be admitted at its site, or none.
+pub fn leave<'a>(
+    tickets: &mut [u16],
+    parents: &mut [u16],
+    keys: &mut [u16],
+    nodes: &mut [u8],
+    rooms: &mut [u8],
+    used: usize,
+    threads: &'a [u8],
+    places: &'a [u8],
+    levels: &'a [u8],
+    ticket: u16,
+) -> Done
+    requires { ⌜ Leavable (arrays (now tickets) (now parents) (now keys) (now nodes) (now rooms)) used (now threads) (now places) (now levels) ⌝ }
+    ensures { λ r. ⌜ Leaves (arrays (now (tickets .entry)) (now (parents .entry)) (now (keys .entry)) (now (nodes .entry)) (now (rooms .entry))) (arrays (now (tickets .exit)) (now (parents .exit)) (now (keys .exit)) (now (nodes .exit)) (now (rooms .exit))) used (r .used) (r .what) (now (threads .entry)) (now (places .entry)) (now (levels .entry)) ticket ⌝ }
+{
+    let ending = faults::return_fault(tickets, parents, keys, used, ticket);
+    let fault = ending.fault;
+    if fault != 0 {
+        return Done {
+            used,
+            what: Printed::Refused(fault),
+        };
+    }
+    let at = ending.at;
+    let node = nodes[at] as usize;
+    let site = places[node];
+    let level = levels[node];
+    let most = threads[site as usize];
+    let left = used - 1;
+    moves::close(tickets, parents, keys, nodes, rooms, used, at, site, level);
+    let admitted = moves::serve(tickets, parents, keys, nodes, rooms, left, site, most);
+    Done {
+        used: left,
+        what: Printed::Number(admitted),
+    }
+}
+
+// Whether a ticket's call is active, waits or is not open. No ticket is not open.
+pub fn ask<'a>(tickets: &'a [u16], keys: &'a [u16], used: usize, ticket: u16) -> Printed
+    requires { ⌜ ((net : Core) × AskSeen net (now tickets) (now keys) used) ⌝ }
+    ensures { λ r. ⌜ Asks (now (tickets .entry)) (now (keys .entry)) used ticket r ⌝ }
+{
+    if ticket == Ticket::NONE {
+        return Printed::Letter(b'N');
+    }
+    let at = table::find(tickets, used, ticket);
+    if at == Ticket::OPEN {
+        return Printed::Letter(b'N');
+    }
+    if keys[at] != 0 {
+        return Printed::Letter(b'W');
+    }
+    Printed::Letter(b'A')
+}
+
+// The room of a level, or 30.
+pub fn room<'a>(rooms: &'a [u8], threads: &'a [u8], site: u8, level: u8) -> Printed
+    requires { ⌜ ((net : Core) × RoomSeen net (now rooms) (now threads)) ⌝ }
+    ensures { λ r. ⌜ Rooms (now (rooms .entry)) (now (threads .entry)) site level r ⌝ }
+{
+    if site as usize >= Site::COUNT {
+        return Printed::Refused(30);
+    }
+    if level >= threads[site as usize] {
+        return Printed::Refused(30);
+    }
+    Printed::Number(rooms[Site::THREADS * site as usize + level as usize] as u16)
+}
