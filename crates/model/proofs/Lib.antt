@@ -10,6 +10,7 @@ pub mod TurnLaws
 pub mod ReadingLaws
 pub mod EncodeLaws
 pub mod KindLaws
+pub mod HouseLaws
 pub mod RecordLaws
 pub mod PlanLaws
 pub mod HeldLaws

@@ -61,7 +61,7 @@ pub fn body_length(kind: u8) -> BodyLength
 }
 
 // The byte at a place, 0 past the end.
-fn byte(bytes: &[u8], at: usize) -> u8
+pub fn byte(bytes: &[u8], at: usize) -> u8
     ensures { λ r. ⌜ r ≡ getD (now (bytes .entry)) at 0 ⌝ }
 {
     if bytes.len() <= at {

@@ -1,0 +1,2 @@
+mod NextLaws
+pub mod AskedLaws

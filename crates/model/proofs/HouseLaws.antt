@@ -1,0 +1,42 @@
+-- What stands at an offset of the input, whatever the table of kinds: the cases of `next` by the kind byte there and the count of bytes behind it.
+-- Assumes nothing.
+use Prim.Native.Nat.{ℕ, suc, _-_, _≤_, _<_}
+use native.Mathlib.Omega.{arith}
+use borrow.Author.Tests.{le-leb, lt-leb}
+use mathlib.Core.Path.{_≡_, ap, _∙_}
+use mathlib.Core.Bool.{Bool}
+use mathlib.Core.Option.{Option, none, some}
+use mathlib.Core.List.{List}
+use lib.ListN.{length, getD, take, drop, length-drop, drop-of-length-le}
+use lib.Seq.{drop-cons}
+use lib.Dec.{leb}
+use Rattle.model.specs.House.{Kinds, lacking, unknown, cut, whole, next, of-kind, body-of}
+
+module _ (kinds : Kinds) (bytes : List ℕ) (at : ℕ) where
+  pub next-lacking : length bytes ≤ at → next kinds (drop at bytes) ≡ lacking
+  unfolding next
+  next-lacking h = rw (drop-of-length-le bytes h)
+
+  module _ (inside : at < length bytes) where
+    opened : next kinds (drop at bytes) ≡ of-kind (kinds (getD bytes at 0)) (getD bytes at 0) (drop (suc at) bytes)
+    unfolding next
+    opened = rw (drop-cons bytes at 0 inside)
+
+    pub next-unknown : kinds (getD bytes at 0) ≡ none → next kinds (drop at bytes) ≡ unknown
+    next-unknown e = opened ∙ ap (λ (o : Option ℕ). of-kind o (getD bytes at 0) (drop (suc at) bytes)) e
+
+    -- a kind that is known, with the length of its body
+    module _ (size : ℕ) (long : kinds (getD bytes at 0) ≡ some size) where
+      known : next kinds (drop at bytes) ≡ body-of (leb size (length (drop (suc at) bytes))) (getD bytes at 0) size (drop (suc at) bytes)
+      known = opened ∙ ap (λ (o : Option ℕ). of-kind o (getD bytes at 0) (drop (suc at) bytes)) long
+
+      pub next-cut : length bytes - at - 1 < size → next kinds (drop at bytes) ≡ cut
+      next-cut h =
+          let t = lt-leb size (length (drop (suc at) bytes)) (omega (arith, length-drop (suc at) bytes)) in
+          known ∙ ap (λ (b : Bool). body-of b (getD bytes at 0) size (drop (suc at) bytes)) t
+
+      pub next-whole : size ≤ length bytes - at - 1
+          → next kinds (drop at bytes) ≡ whole (getD bytes at 0) (take size (drop (suc at) bytes)) (drop size (drop (suc at) bytes))
+      next-whole h =
+          let t = le-leb size (length (drop (suc at) bytes)) (omega (arith, length-drop (suc at) bytes)) in
+          known ∙ ap (λ (b : Bool). body-of b (getD bytes at 0) size (drop (suc at) bytes)) t
