@@ -16,7 +16,7 @@ use Rattle.faults.proofs.LadderLaws.{node-small}
 use Rattle.text.specs.declared.Printed.{Printed}
 use Rattle.text.proofs.LineLaws.{of-answer}
 use Rattle.steps.specs.Running.{Running, Stepped, entering, CanEnter}
-use Rattle.steps.proofs.StandLaws.{stepped}
+use Rattle.steps.proofs.StandLaws.{runs-after}
 
 -- A listed node in the plan's arrays
 
@@ -97,7 +97,7 @@ module _ {net : Core} {a : Arrays} {used : ℕ} {most-of places levels edges : L
   unfolding opening
   entered says after =
       let command = entering called parent ticket node in
-      stepped (ok .running) command (opened (net .plan) (net .calls) parent ticket node) (cond (admissible (net .plan) (net .calls) node) active waiting)
+      runs-after (ok .running) command (opened (net .plan) (net .calls) parent ticket node) (cond (admissible (net .plan) (net .calls) node) active waiting)
       (accepted-step net command none-fails ∙ entering-done net called parent ticket node (ok .no-parent))
       (says ∙ ap (λ (x : Bool). of-answer (cond x active waiting)) (after .0))
       (after .1)

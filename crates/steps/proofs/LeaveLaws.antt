@@ -18,15 +18,15 @@ use Rattle.moves.specs.Held.{Arrays, Held, CanClose, CanServe}
 use Rattle.moves.proofs.TableLaws.{told-there}
 use Rattle.text.specs.declared.Printed.the-variants.{Number}
 use Rattle.steps.specs.Running.{Running, Stepped}
-use Rattle.steps.proofs.StandLaws.{stepped}
+use Rattle.steps.proofs.StandLaws.{runs-after}
 use Rattle.steps.proofs.EnterLaws.{node-inside, site-inside, node-placed}
 
 -- what the tests of a return say of a net: their number, and where there is none the place of the call
-abbrev pub Told : Core → ℕ → ℕ → ℕ → Type 0
-Told net ticket at number = (number ≡ fault net (return ticket)) × (number ≡ 0 → at ≡ first-place (has ticket) (net .calls))
+abbrev pub TestsTold : Core → ℕ → ℕ → ℕ → Type 0
+TestsTold net ticket at number = (number ≡ fault net (return ticket)) × (number ≡ 0 → at ≡ first-place (has ticket) (net .calls))
 
 module _ {net : Core} {a : Arrays} {used : ℕ} {most-of places levels edges : List ℕ} (run : Running net a used most-of places levels edges)
-    (ticket at number : ℕ) (told : Told net ticket at number) (passes : number ≡ 0) where
+    (ticket at number : ℕ) (told : TestsTold net ticket at number) (passes : number ≡ 0) where
   pub none-fails : fault net (return ticket) ≡ 0
   none-fails = sym (told .0) ∙ passes
 
@@ -79,17 +79,17 @@ module _ {net : Core} {a : Arrays} {used : ℕ} {most-of places levels edges : L
     pub can-serve : CanServe (net .plan) (closed (net .calls) ticket) b (used - 1) site (getD most-of site 0)
     can-serve = record { held = closing; site-inside = site-listed; threads-are = node-placed run node known .threads-are }
 
-    pub left : {d : Arrays} {admitted : ℕ}
+    pub returned : {d : Arrays} {admitted : ℕ}
         → (admitted ≡ ticket-of (waker (net .plan) (closed (net .calls) ticket) site))
         × Held (net .plan) (woken (net .plan) (closed (net .calls) ticket) site) d (used - 1)
         → Stepped (step net (return ticket)) d (used - 1) (Number admitted) most-of places levels edges
     unfolding serving
-    left after =
+    returned after =
         let cs = closed (net .calls) ticket in
         let site-then : site-of (net .plan) (node-of (lookup (net .calls) ticket)) ≡ site =
         ap (λ (o : Option Call). site-of (net .plan) (node-of o)) (ending .stands) ∙ sym site-there
         in
-        stepped run (return ticket) (woken (net .plan) cs site) (ended (ticket-of (waker (net .plan) cs site)))
+        runs-after run (return ticket) (woken (net .plan) cs site) (ended (ticket-of (waker (net .plan) cs site)))
         (accepted-step net (return ticket) none-fails ∙ ap (serving (net .plan) cs) site-then)
         (ap Number (after .0))
         (after .1)

@@ -19,14 +19,14 @@ outcome net cs answer = record { core = record { plan = net .plan; calls = cs };
 
 module _ {net : Core} {a : Arrays} {used : ℕ} {most-of places levels edges : List ℕ} (run : Running net a used most-of places levels edges)
     (c : Command) where
-  pub stepped : (cs : List Call) (answer : Answer) → step net c ≡ outcome net cs answer → {b : Arrays} {used-after : ℕ} {what : Printed}
+  pub runs-after : (cs : List Call) (answer : Answer) → step net c ≡ outcome net cs answer → {b : Arrays} {used-after : ℕ} {what : Printed}
       → what ≡ of-answer answer → Held (net .plan) cs b used-after → Stepped (step net c) b used-after what most-of places levels edges
-  stepped cs answer e {b} {used-after} {what} says held =
+  runs-after cs answer e {b} {used-after} {what} says held =
       subst (λ (o : Outcome). Stepped o b used-after what most-of places levels edges) (sym e)
       (record {
         says = says;
         runs-on = record { keeps = subst (λ (o : Outcome). Keeps (o .core)) e (step-keeps net (run .keeps) c); held = held; planned = run .planned };
       })
 
-  pub stays : (number : ℕ) → number ≡ fault net c → (number ≡ 0 → ⊥) → Stepped (step net c) a used (Refused number) most-of places levels edges
-  stays number e apart = stepped (net .calls) (refused (fault net c)) (refused-step net c (λ q. apart (e ∙ q))) (ap Refused e) (run .held)
+  pub refused-runs : (number : ℕ) → number ≡ fault net c → (number ≡ 0 → ⊥) → Stepped (step net c) a used (Refused number) most-of places levels edges
+  refused-runs number e apart = runs-after (net .calls) (refused (fault net c)) (refused-step net c (λ q. apart (e ∙ q))) (ap Refused e) (run .held)

@@ -91,5 +91,5 @@ pub record RoomSeen (net : Core) (rooms most-of : List ℕ) : Type 0 where
   pub of-rooms : RoomsTell (net .plan) (counts (net .plan) (net .calls)) rooms
   pub staffed : Staffed (net .plan) most-of
 
-abbrev pub Rooms : List ℕ → List ℕ → ℕ → ℕ → Printed → Type 0
-Rooms rooms most-of site level what = (net : Core) → RoomSeen net rooms most-of → what ≡ of-room (room-at net site level)
+abbrev pub RoomAsked : List ℕ → List ℕ → ℕ → ℕ → Printed → Type 0
+RoomAsked rooms most-of site level what = (net : Core) → RoomSeen net rooms most-of → what ≡ of-room (room-at net site level)

@@ -9,7 +9,7 @@ ghost use Rattle.model.specs.Command.{active, waiting};
 ghost use Rattle.moves.specs.Held.{arrays};
 ghost use Rattle.faults.specs.Seen.{CallSeen};
 ghost use Rattle.text.proofs.LineLaws.{of-answer};
-ghost use Rattle.steps.specs.Running.{EntryFault, Enterable, Enters, Leavable, Leaves, AskSeen, Asks, RoomSeen, Rooms};
+ghost use Rattle.steps.specs.Running.{EntryFault, Enterable, Enters, Leavable, Leaves, AskSeen, Asks, RoomSeen, RoomAsked};
 use ids::Site;
 use ids::Ticket;
 use text::Printed;
@@ -182,7 +182,7 @@ pub fn ask<'a>(tickets: &'a [u16], keys: &'a [u16], used: usize, ticket: u16) ->
 // The room of a level, or 30.
 pub fn room<'a>(rooms: &'a [u8], threads: &'a [u8], site: u8, level: u8) -> Printed
     requires { ⌜ ((net : Core) × RoomSeen net (now rooms) (now threads)) ⌝ }
-    ensures { λ r. ⌜ Rooms (now (rooms .entry)) (now (threads .entry)) site level r ⌝ }
+    ensures { λ r. ⌜ RoomAsked (now (rooms .entry)) (now (threads .entry)) site level r ⌝ }
 {
     if site as usize >= Site::COUNT {
         return Printed::Refused(30);

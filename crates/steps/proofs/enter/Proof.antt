@@ -4,7 +4,7 @@ use mathlib.Core.Path.{_≡_}
 use Rattle.model.specs.Command.{fault}
 use Rattle.steps.specs.Running.{entering}
 use Rattle.steps.proofs.SeenLaws.{call-seen}
-use Rattle.steps.proofs.StandLaws.{stays}
+use Rattle.steps.proofs.StandLaws.{refused-runs}
 use Rattle.steps.proofs.EnterLaws.{node-there, site-there, room-left, can-open, entered}
 use borrow.Author.Needs.{needs}
 use Rattle.steps.proofs.enter.Statement.{statement}
@@ -43,7 +43,7 @@ entry-fault-requires : tie.Need-entry-fault-requires
 entry-fault-requires c κs = let ok = entry c .pre in (ok .0 .plan, ok .0 .calls, call-seen (ok .1 .running))
 
 returns : tie.Need-returns
-returns c = λ net ok. stays (ok .running) _ _ (c .before .entry-fault .ensures _ _ (call-seen (ok .running))) (c .if1 .taken)
+returns c = λ net ok. refused-runs (ok .running) _ _ (c .before .entry-fault .ensures _ _ (call-seen (ok .running))) (c .if1 .taken)
 
 shared-slice-read-site : tie.Need-shared-slice-read-site
 shared-slice-read-site c =

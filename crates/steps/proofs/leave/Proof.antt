@@ -2,8 +2,8 @@
 -- Assumes nothing.
 use native.Mathlib.Omega.{arith}
 use Rattle.steps.proofs.SeenLaws.{return-seen}
-use Rattle.steps.proofs.StandLaws.{stays}
-use Rattle.steps.proofs.LeaveLaws.{Told, at-inside, at-small, node-listed, site-listed, gone, can-close, can-serve, left}
+use Rattle.steps.proofs.StandLaws.{refused-runs}
+use Rattle.steps.proofs.LeaveLaws.{TestsTold, at-inside, at-small, node-listed, site-listed, gone, can-close, can-serve, returned}
 use borrow.Author.Needs.{needs}
 use Rattle.steps.proofs.leave.Statement.{statement}
 use Rattle.steps.proofs.leave.Tie as tie
@@ -41,14 +41,14 @@ serving c = c .before .before .before .before
 -- what the tests said of the net at entry
 abbrev told : (c : tie.Else1) → let s = start c in
     let ending = c .before .return-fault .result in
-    Told (s .pre .0) (s .args .ticket) (ending .at) (ending .fault)
+    TestsTold (s .pre .0) (s .args .ticket) (ending .at) (ending .fault)
 told c = c .before .return-fault .ensures _ _ (return-seen (start c .pre .2))
 
 return-fault-requires : tie.Need-return-fault-requires
 return-fault-requires c κs = let ok = entry c .pre in (ok .0 .plan, ok .0 .calls, return-seen (ok .2))
 
 returns : tie.Need-returns
-returns c = λ net edges run. stays run _ _ (c .before .return-fault .ensures _ _ (return-seen run) .0) (c .if1 .taken)
+returns c = λ net edges run. refused-runs run _ _ (c .before .return-fault .ensures _ _ (return-seen run) .0) (c .if1 .taken)
 
 slice-read-node : tie.Need-slice-read-node
 slice-read-node c =
@@ -115,7 +115,7 @@ returns-2 c =
     let said = there .before .return-fault .ensures _ _ (return-seen run) in
     let passes = there .if1 .left in
     let closed = at-close .close .ensures _ _ _ _ (can-close run _ _ _ said passes) in
-    left run _ _ _ said passes closed (at-serve .serve .ensures _ _ (can-serve run _ _ _ said passes closed))
+    returned run _ _ _ said passes closed (at-serve .serve .ensures _ _ (can-serve run _ _ _ said passes closed))
 
 pub leave-spec : {M : Type 1} → statement M
 leave-spec =
