@@ -19,7 +19,7 @@ use Rattle.model.proofs.RecordLaws.{threads-listed, passes-ok}
 use Rattle.model.proofs.PlaceLaws.{threads-most}
 use Rattle.moves.specs.Held.{room-byte}
 use Rattle.text.specs.declared.Printed.the-variants.{Letter, Number, Refused}
-use Rattle.text.proofs.LineLaws.{of-standing, of-room}
+use Rattle.text.specs.Lines.{of-standing, of-room}
 use Rattle.steps.specs.Running.{RoomSeen}
 
 -- A ticket

@@ -14,7 +14,7 @@ use Rattle.model.proofs.PlaceLaws.{site-small}
 use Rattle.moves.specs.Held.{Arrays, Held, Placed, CanOpen}
 use Rattle.faults.proofs.LadderLaws.{node-small}
 use Rattle.text.specs.declared.Printed.{Printed}
-use Rattle.text.proofs.LineLaws.{of-answer}
+use Rattle.text.specs.Lines.{of-answer}
 use Rattle.steps.specs.Running.{Running, Stepped, entering, CanEnter}
 use Rattle.steps.proofs.StandLaws.{runs-after}
 

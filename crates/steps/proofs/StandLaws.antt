@@ -10,7 +10,7 @@ use Rattle.model.proofs.StepLaws.{refused-step, step-keeps}
 use Rattle.moves.specs.Held.{Arrays, Held}
 use Rattle.text.specs.declared.Printed.{Printed}
 use Rattle.text.specs.declared.Printed.the-variants.{Refused}
-use Rattle.text.proofs.LineLaws.{of-answer}
+use Rattle.text.specs.Lines.{of-answer}
 use Rattle.steps.specs.Running.{Running, Stepped}
 
 -- the net with these open calls, and an answer

@@ -12,7 +12,7 @@ use Rattle.model.specs.Command.{Command, start, call, return, fault, Outcome, s
 use Rattle.moves.specs.Held.{Tells, key-of, RoomsTell, Arrays, Held}
 use Rattle.faults.specs.Seen.{Listing, Edging, Ticketed, CallSeen}
 use Rattle.text.specs.declared.Printed.{Printed}
-use Rattle.text.proofs.LineLaws.{of-answer, of-standing, of-room}
+use Rattle.text.specs.Lines.{of-answer, of-standing, of-room}
 
 -- the lent threads of the sites
 pub record Staffed (rs : List Record) (most-of : List ℕ) : Type 0 where

@@ -8,7 +8,7 @@ ghost use Rattle.model.specs.Net.{Call, Core};
 ghost use Rattle.model.specs.Command.{active, waiting};
 ghost use Rattle.moves.specs.Held.{arrays};
 ghost use Rattle.faults.specs.Seen.{CallSeen};
-ghost use Rattle.text.proofs.LineLaws.{of-answer};
+ghost use Rattle.text.specs.Lines.{of-answer};
 ghost use Rattle.steps.specs.Running.{EntryFault, Enterable, Enters, Leavable, Leaves, AskSeen, Asks, RoomSeen, RoomAsked};
 use ids::Site;
 use ids::Ticket;

@@ -7,7 +7,7 @@ use Rattle.model.specs.Command.{Standing, is-running, is-waiting, not-open, ask
 use Rattle.model.specs.Net.{Core}
 use Rattle.model.specs.Text.{Text, spaced, newline, answer-text, standing-text, room-text, command-text, ask-text, room-asked-text}
 use Rattle.model.specs.Transcript.{command, question, room-question, line}
-use Rattle.text.specs.Lines.{printed, answer-end, line-text, line2-text}
+use Rattle.text.specs.Lines.{of-answer, of-standing, of-room, printed, answer-end, line-text, line2-text}
 use Rattle.text.specs.declared.Printed.{Printed}
 use Rattle.text.specs.declared.Printed.the-variants.{Letter, Number, Refused}
 
@@ -27,21 +27,6 @@ module _ {what : Printed} (n : ℕ) where
   refused-ends e = sym (ap answer-end e)
 
 -- The model's answers
-
-abbrev pub of-answer : Answer → Printed
-of-answer (refused n) = Refused n
-of-answer active = Letter 71
-of-answer waiting = Letter 87
-of-answer (ended t) = Number t
-
-abbrev pub of-standing : Standing → Printed
-of-standing is-running = Letter 65
-of-standing is-waiting = Letter 87
-of-standing not-open = Letter 78
-
-abbrev pub of-room : Roomed → Printed
-of-room (has-room n) = Number n
-of-room (no-answer n) = Refused n
 
 pub answer-printed : (a : Answer) → answer-text a ≡ printed (of-answer a)
 unfolding answer-text printed
