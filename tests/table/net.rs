@@ -1,0 +1,319 @@
+//! The open calls and the commands on them. Nothing is kept that can be counted.
+
+use crate::plan::Plan;
+use crate::wrong::{first, List, Wrong};
+
+/// "An open call has a ticket, a node, a parent or none, and is active or waiting."
+#[derive(Clone)]
+pub struct Call {
+    pub ticket: u16,
+    pub node: u8,
+    /// 0 is none
+    pub parent: u16,
+    pub active: bool,
+    /// the moment it was opened, which is when a waiting call began to wait
+    pub since: u64,
+}
+
+#[derive(Clone)]
+pub struct Net {
+    pub plan: Plan,
+    pub calls: Vec<Call>,
+    clock: u64,
+    /// admissions less returns, a site
+    balance: [i64; 256],
+    wrong: Wrong,
+}
+
+#[derive(Clone, Copy, PartialEq, Debug)]
+pub enum Answer {
+    Active,
+    Waiting,
+    Refused(u8),
+    /// the ticket admitted by a return, or 0
+    Served(u16),
+    Asked(char),
+    Room(i64),
+}
+
+/// Room for every level a plan can have, and for those a wrong rule lets in.
+const LEVELS: usize = 66;
+
+/// A[k]: "the sum of a[j] for all j at or above k".
+fn at_or_above(counts: &[i64], k: usize) -> i64 {
+    counts[k..].iter().sum()
+}
+
+/// "The site is lawful when A[k] is at most T - k for every k from 0 to T - 1."
+fn lawful(threads: u8, counts: &[i64], wrong: Wrong) -> bool {
+    let t = i64::from(threads);
+    let shift = match wrong {
+        Wrong::LimitUp => 1,
+        Wrong::LimitDown => -1,
+        _ => 0,
+    };
+    let last = if wrong == Wrong::LimitAboveT { 64 } else { usize::from(threads) };
+    (0..last).all(|k| at_or_above(counts, k) <= t - k as i64 + shift)
+}
+
+/// "exactly when the site stays lawful with a[i] one larger"
+fn admissible(threads: u8, counts: &[i64], level: u8, wrong: Wrong) -> bool {
+    let (t, i) = (i64::from(threads), i64::from(level));
+    let above = |k| at_or_above(counts, k);
+    match wrong {
+        Wrong::BadP => above(0) < t && above(level as usize) < t - i,
+        Wrong::BasicP => i < t - above(0),
+        Wrong::EfficientP => above(0) < t && (i == 0 || i < t - above(1)),
+        _ => {
+            let mut more = counts.to_vec();
+            more[level as usize] += 1;
+            lawful(threads, &more, wrong)
+        }
+    }
+}
+
+impl Net {
+    pub fn new(plan: Plan, wrong: Wrong) -> Net {
+        Net { plan, calls: Vec::new(), clock: 0, balance: [0; 256], wrong }
+    }
+
+    pub fn find(&self, ticket: u16) -> Option<&Call> {
+        self.calls.iter().find(|c| c.ticket == ticket)
+    }
+
+    pub fn place(&self, call: &Call) -> (u8, u8) {
+        self.plan.node(call.node).unwrap_or((0, 0))
+    }
+
+    /// a[k] for every k: "the active calls of level k" at the site.
+    pub fn counts(&self, site: u8) -> Vec<i64> {
+        let mut counts = vec![0; LEVELS];
+        for call in &self.calls {
+            let (s, level) = self.place(call);
+            if s == site && (call.active || self.wrong == Wrong::WaitingCounted) {
+                counts[level as usize] += 1;
+            }
+        }
+        counts
+    }
+
+    pub fn may_admit(&self, site: u8, level: u8) -> bool {
+        let threads = self.plan.threads(site).unwrap_or(0);
+        admissible(threads, &self.counts(site), level, self.wrong)
+    }
+
+    pub fn has_child(&self, ticket: u16) -> bool {
+        self.calls.iter().any(|c| c.parent == ticket)
+    }
+
+    /// "Start: a call without a parent."
+    pub fn start(&mut self, ticket: u16, node: u8) -> Answer {
+        let holds = |no| self.opening_fault(no, 0, ticket, node);
+        match first(List::Start, self.wrong, holds) {
+            Some(no) => Answer::Refused(no),
+            None => self.open(0, ticket, node),
+        }
+    }
+
+    /// "Call: a call under an active parent whose node has an edge to the called node."
+    pub fn call(&mut self, parent: u16, ticket: u16, node: u8) -> Answer {
+        let holds = |no| self.opening_fault(no, parent, ticket, node);
+        match first(List::Call, self.wrong, holds) {
+            Some(no) => Answer::Refused(no),
+            None => self.open(parent, ticket, node),
+        }
+    }
+
+    /// The table of 01, numbers 20 to 26.
+    fn opening_fault(&self, no: u8, parent: u16, ticket: u16, node: u8) -> bool {
+        let most = match self.wrong {
+            Wrong::Open257 => 257,
+            Wrong::Open255 => 255,
+            _ => 256,
+        };
+        match no {
+            20 => ticket == 0,
+            21 => self.find(ticket).is_some(),
+            22 => self.plan.node(node).is_none(),
+            23 => self.find(parent).is_none(),
+            24 => self.find(parent).is_some_and(|p| !p.active),
+            25 => !self.find(parent).is_some_and(|p| self.plan.edge(p.node, node)),
+            26 => self.calls.len() >= most,
+            _ => false,
+        }
+    }
+
+    /// "If the level may be admitted the new call is active, else it waits, last at its site."
+    fn open(&mut self, parent: u16, ticket: u16, node: u8) -> Answer {
+        let (site, level) = self.plan.node(node).unwrap_or((0, 0));
+        let queued = self.wrong == Wrong::NoPassing && !self.waiting(site).is_empty();
+        let active = self.may_admit(site, level) && !queued;
+        let since = self.clock;
+        self.clock += 1;
+        self.calls.push(Call { ticket, node, parent, active, since });
+        if active {
+            self.balance[site as usize] += 1;
+            return Answer::Active;
+        }
+        Answer::Waiting
+    }
+
+    /// "Return: the ticket's call ends and its thread comes back."
+    pub fn back(&mut self, ticket: u16) -> Answer {
+        let holds = |no| self.return_fault(no, ticket);
+        if let Some(no) = first(List::Return, self.wrong, holds) {
+            return Answer::Refused(no);
+        }
+        let place = self.calls.iter().position(|c| c.ticket == ticket).unwrap();
+        let (site, _) = self.place(&self.calls[place]);
+        self.calls.remove(place);
+        self.balance[site as usize] -= 1;
+        Answer::Served(self.serve(site))
+    }
+
+    /// The table of 01, numbers 27 to 29.
+    fn return_fault(&self, no: u8, ticket: u16) -> bool {
+        match no {
+            27 => self.find(ticket).is_none(),
+            28 => self.find(ticket).is_some_and(|c| !c.active),
+            29 => match self.wrong {
+                Wrong::NoChildren => false,
+                Wrong::ActiveChildren => self.calls.iter().any(|c| c.parent == ticket && c.active),
+                _ => self.has_child(ticket),
+            },
+            _ => false,
+        }
+    }
+
+    /// The calls that wait at the site, the one that has waited longest first: their level and ticket.
+    fn waiting(&self, site: u8) -> Vec<(u8, u16)> {
+        let here = |c: &&Call| !c.active && self.place(c).0 == site;
+        let mut calls: Vec<&Call> = self.calls.iter().filter(here).collect();
+        calls.sort_by_key(|c| c.since);
+        calls.iter().map(|c| (self.place(c).1, c.ticket)).collect()
+    }
+
+    /// "of the calls waiting at that site with an admissible level, the one that has waited longest becomes active"
+    fn serve(&mut self, site: u8) -> u16 {
+        let mut waiting = self.waiting(site);
+        match self.wrong {
+            Wrong::FirstWaiter => waiting.truncate(1),
+            Wrong::Youngest => waiting.reverse(),
+            Wrong::LowestTicket => waiting.sort_by_key(|w| w.1),
+            Wrong::LowestLevel => waiting.sort_by_key(|w| w.0),
+            Wrong::HighestLevel => waiting.sort_by_key(|w| 255 - w.0),
+            Wrong::NobodyServed => waiting.clear(),
+            _ => {}
+        }
+        let (threads, counts) = (self.plan.threads(site).unwrap_or(0), self.counts(site));
+        let may = |w: &&(u8, u16)| admissible(threads, &counts, w.0, self.wrong);
+        let Some(&(_, ticket)) = waiting.iter().find(may) else {
+            return 0;
+        };
+        let call = self.calls.iter_mut().find(|c| c.ticket == ticket).unwrap();
+        call.active = true;
+        self.balance[site as usize] += 1;
+        ticket
+    }
+
+    /// "a question `A`, `W` or `N` (not open)"
+    pub fn ask(&self, ticket: u16) -> Answer {
+        Answer::Asked(match self.find(ticket) {
+            None => 'N',
+            Some(c) if c.active => 'A',
+            Some(_) => 'W',
+        })
+    }
+
+    /// "The room at level k is T - k - A[k]"; 30: "an unlisted site, or a level not below its threads".
+    pub fn room(&self, site: u8, level: u8) -> Answer {
+        match self.plan.threads(site) {
+            Some(t) if level < t => {
+                let room = |k: u8| i64::from(t) - i64::from(k) - at_or_above(&self.counts(site), k as usize);
+                match self.wrong {
+                    Wrong::RoomGloss => Answer::Room((0..=level).map(room).min().unwrap()),
+                    _ => Answer::Room(room(level)),
+                }
+            }
+            _ => Answer::Refused(30),
+        }
+    }
+
+    /// How hard the state is: the newest call's chain, the chain's calls at the newest call's site, the newest call's
+    /// parent's children, the calls that wait at its site, and their different levels.
+    pub fn shape(&self) -> [usize; 5] {
+        let Some(newest) = self.calls.last() else { return [0; 5] };
+        let site = self.place(newest).0;
+        let (mut length, mut here, mut at) = (0, 0, Some(newest));
+        while let Some(c) = at {
+            length += 1;
+            here += usize::from(self.place(c).0 == site);
+            at = self.find(c.parent);
+        }
+        let family = |c: &&Call| c.parent != 0 && c.parent == newest.parent;
+        let children = self.calls.iter().filter(family).count();
+        let waiting = self.waiting(site);
+        let mut levels: Vec<u8> = waiting.iter().map(|w| w.0).collect();
+        levels.sort();
+        levels.dedup();
+        [length, here, children, waiting.len(), levels.len()]
+    }
+
+    /// Demand 3 and the net rules, of the state as it stands. Says what is broken.
+    pub fn broken(&self) -> Option<String> {
+        let sites = self.plan.sites.iter();
+        sites.clone().find_map(|s| self.site_broken(s.0, s.1)).or_else(|| self.calls_broken()).or_else(|| self.stuck())
+    }
+
+    /// At each site, for each k below T, at most T - k active calls of level k or higher; no waiting call admissible.
+    fn site_broken(&self, site: u8, threads: u8) -> Option<String> {
+        let active = |c: &&Call| c.active && self.place(c).0 == site;
+        let levels: Vec<u8> = self.calls.iter().filter(active).map(|c| self.place(c).1).collect();
+        for k in 0..threads {
+            let high = levels.iter().filter(|l| **l >= k).count();
+            if high > usize::from(threads - k) {
+                return Some(format!("site {site}: {high} active calls of level {k} or higher, {threads} threads"));
+            }
+        }
+        if levels.len() as i64 != self.balance[site as usize] {
+            return Some(format!("site {site}: admissions less returns are not its active calls"));
+        }
+        let counts = self.counts(site);
+        let highest = highest(threads, &counts);
+        for level in 0..threads {
+            let may = admissible(threads, &counts, level, Wrong::None);
+            if may != (i64::from(level) <= highest) {
+                return Some(format!("site {site}: level {level} and the highest level {highest}"));
+            }
+        }
+        let late = self.waiting(site).into_iter().find(|w| i64::from(w.0) <= highest)?;
+        Some(format!("site {site}: ticket {} waits and is admissible", late.1))
+    }
+
+    /// "open tickets differ and none is 0; every parent is open and active, with the edge in the plan"
+    fn calls_broken(&self) -> Option<String> {
+        for (i, c) in self.calls.iter().enumerate() {
+            let twice = self.calls[..i].iter().any(|d| d.ticket == c.ticket);
+            let parent = self.find(c.parent);
+            let lone = c.parent == 0;
+            let under = parent.is_some_and(|p| p.active && self.plan.edge(p.node, c.node));
+            if c.ticket == 0 || twice || !(lone || under) || self.plan.node(c.node).is_none() {
+                return Some(format!("the call of ticket {} breaks a net rule", c.ticket));
+            }
+        }
+        (self.calls.len() > 256).then(|| "more than 256 open calls".to_string())
+    }
+
+    /// If any call is open, some active call has no open child.
+    fn stuck(&self) -> Option<String> {
+        let free = self.calls.iter().any(|c| c.active && !self.has_child(c.ticket));
+        (!self.calls.is_empty() && !free).then(|| "no active call without an open child".to_string())
+    }
+}
+
+/// "one less than the lowest k below T with A[k] = T - k, and T - 1 if no level is full"; -1 is "none".
+fn highest(threads: u8, counts: &[i64]) -> i64 {
+    let t = i64::from(threads);
+    let full = |k: &i64| at_or_above(counts, *k as usize) == t - k;
+    (0..t).find(full).unwrap_or(t) - 1
+}
