@@ -1,9 +1,8 @@
 -- What a turn of a run does, told of whichever net the arrays hold: its answer, its line and the net after it. For the contracts of `turns`.
 -- Assumes nothing.
-use Prim.Native.Nat.{ℕ, _+_, _≤_}
+use Prim.Native.Nat.{ℕ}
 use mathlib.Core.Path.{_≡_}
 use mathlib.Core.List.{List}
-use lib.ListN.{length}
 use Rattle.model.specs.Net.{Core}
 use Rattle.model.specs.Text.{Text}
 use Rattle.model.specs.Transcript.{line, after}
@@ -11,7 +10,6 @@ use Rattle.moves.specs.Held.{Arrays}
 use Rattle.text.specs.declared.Printed.{Printed}
 use Rattle.text.specs.Lines.{line-text, line2-text}
 use Rattle.text.specs.Put.{Put}
-use Rattle.text.specs.Room.{line-room}
 use Rattle.decode.specs.Asked.{asked}
 use Rattle.decode.specs.declared.Request.{Request}
 use Rattle.steps.specs.Running.{Running}
