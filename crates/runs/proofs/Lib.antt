@@ -1,1 +1,2 @@
 mod WentLaws
+pub mod LinesLaws
