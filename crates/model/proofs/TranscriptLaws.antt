@@ -3,12 +3,9 @@
 use Prim.Native.Nat.{ℕ, zero, suc, _+_, _<_}
 use native.Mathlib.Omega.{arith}
 use mathlib.Core.Path.{_≡_, refl, sym, ap, subst, _∙_}
-use mathlib.Core.Bool.{Bool, true, false}
 use mathlib.Core.List.{List, [], _∷_, _++_}
-use mathlib.Core.Option.{Option, none, some}
-use lib.ListN.{length, drop, length-drop}
-use lib.Dec.{leb}
-use Rattle.model.specs.House.{Next, lacking, unknown, cut, whole, body-of, of-kind, next}
+use lib.ListN.{length}
+use Rattle.model.specs.House.{Next, lacking, unknown, cut, whole, next}
 use Rattle.model.specs.Plan.{Record}
 use Rattle.model.specs.Reading.{PlanOk}
 use Rattle.model.specs.Net.{Core, empty-net}
@@ -17,22 +14,9 @@ use Rattle.model.specs.Command.{Command, step, run}
 use Rattle.model.specs.Text.{Text}
 use Rattle.model.specs.Transcript.{Request, command, question, room-question, command-kinds, request, line, after, turn, lines}
 use Rattle.model.specs.Demands.{Safe}
+use Rattle.model.proofs.HouseLaws.{whole-length}
 use Rattle.model.proofs.StepLaws.{run-keeps, empty-keeps}
 use Rattle.model.proofs.Demands.{safe-after}
-
--- a whole record uses a byte at least
-shorter : (bytes : List ℕ) (kind : ℕ) (body rest : List ℕ) → next command-kinds bytes ≡ whole kind body rest → length rest < length bytes
-unfolding next
-shorter [] kind body rest e = let z : _≡_ {A = ℕ} 0 1 = cc in absurd (omega arith)
-shorter (b ∷ bytes) kind body rest e = go (command-kinds b) e
-  where
-    inside : (t : Bool) (size : ℕ) → body-of t b size bytes ≡ whole kind body rest → length rest < suc (length bytes)
-    inside true size q = let same : rest ≡ drop size bytes = cc in omega (arith, ap length same, length-drop size bytes)
-    inside false size q = let z : _≡_ {A = ℕ} 0 1 = cc in absurd (omega arith)
-
-    go : (o : Option ℕ) → of-kind o b bytes ≡ whole kind body rest → length rest < suc (length bytes)
-    go none q = let z : _≡_ {A = ℕ} 0 1 = cc in absurd (omega arith)
-    go (some size) q = inside (leb size (length bytes)) size q
 
 -- one turn more makes no difference
 pub lines-enough : (turns : ℕ) (net : Core) (at commands : ℕ) (bytes : List ℕ) → length bytes < turns
@@ -49,7 +33,7 @@ lines-enough (suc turns) net at commands bytes h = go (next command-kinds bytes)
     go cut e rest = refl
     go (whole kind body bs) e rest =
         ap (λ (t : Text). line net (request kind body) ++ t)
-        (rest (after net (request kind body)) (at + suc (length body)) (suc commands) bs (omega (arith, shorter bytes kind body bs e)))
+        (rest (after net (request kind body)) (at + suc (length body)) (suc commands) bs (omega (arith, whole-length command-kinds bytes kind body bs e)))
 
 -- what a record does to the net, commands do
 abbrev pub commands-of : Request → List Command

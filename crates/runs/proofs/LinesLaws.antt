@@ -4,17 +4,15 @@ use Prim.Native.Nat.{ℕ, zero, suc, _+_, _<_}
 use native.Mathlib.Omega.{arith}
 use native.Mathlib.Numerals.{add-one}
 use mathlib.Core.Path.{_≡_, refl, sym, ap, ap₂, _∙_}
-use mathlib.Core.Bool.{Bool, true, false}
-use mathlib.Core.Option.{Option, none, some}
 use mathlib.Core.List.{List, [], _∷_, _++_, append-assoc}
-use lib.ListN.{length, take, drop, length-drop, take-append-drop}
+use lib.ListN.{length, drop, length-drop}
 use lib.Seq.{drop-drop, drop-append-seam}
-use lib.Dec.{leb}
-use Rattle.model.specs.House.{Next, lacking, unknown, cut, whole, next, of-kind, body-of}
+use Rattle.model.specs.House.{Next, lacking, unknown, cut, whole, next}
 use Rattle.model.specs.Net.{Core}
 use Rattle.model.specs.Text.{Text, done-line, bad-line}
 use Rattle.model.specs.Transcript as transcript
 use Rattle.model.specs.Transcript.{command-kinds, request, line, after, turn, lines}
+use Rattle.model.proofs.HouseLaws.{whole-split}
 use Rattle.model.proofs.TranscriptLaws.{lines-enough}
 use Rattle.decode.specs.Asked.{asked, next-in, from-next, request-of}
 use Rattle.decode.specs.declared.Request.{Request}
@@ -23,24 +21,6 @@ use Rattle.decode.proofs.AskedLaws.{asked-request}
 use Rattle.runs.specs.Went.{Went, nowhere, further, stop-of}
 use Rattle.runs.specs.declared.Stop.{Stop}
 use Rattle.runs.proofs.WentLaws.{behind-inside}
-
--- a whole record is a kind, its body and what follows
-whole-split : (bytes : List ℕ) (kind : ℕ) (body rest : List ℕ) → next command-kinds bytes ≡ whole kind body rest → bytes ≡ kind ∷ (body ++ rest)
-unfolding next
-whole-split [] kind body rest e = let z : _≡_ {A = ℕ} 0 1 = cc in absurd (omega arith)
-whole-split (b ∷ bytes) kind body rest e = go (command-kinds b) e
-  where
-    inside : (t : Bool) (size : ℕ) → body-of t b size bytes ≡ whole kind body rest → b ∷ bytes ≡ kind ∷ (body ++ rest)
-    inside true size q =
-        let same-kind : b ≡ kind = cc in
-        let same-body : take size bytes ≡ body = cc in
-        let same-rest : drop size bytes ≡ rest = cc in
-        ap₂ _∷_ same-kind (sym (take-append-drop size bytes) ∙ ap₂ _++_ same-body same-rest)
-    inside false size q = let z : _≡_ {A = ℕ} 0 1 = cc in absurd (omega arith)
-
-    go : (o : Option ℕ) → of-kind o b bytes ≡ whole kind body rest → b ∷ bytes ≡ kind ∷ (body ++ rest)
-    go none q = let z : _≡_ {A = ℕ} 0 1 = cc in absurd (omega arith)
-    go (some size) q = inside (leb size (length bytes)) size q
 
 -- what the decoder found, in the model's words
 pub record Whole (bytes : List ℕ) (at : ℕ) (q : Request) (behind : ℕ) : Type 0 where
@@ -62,7 +42,7 @@ whole-found bytes at q behind e = go (next command-kinds (drop at bytes)) refl e
         let same-place : behind ≡ at + suc (length body) = cc in
         let there : rest ≡ drop behind bytes
         = sym (drop-append-seam (kind ∷ body) rest)
-        ∙ ap (drop (suc (length body))) (sym (whole-split (drop at bytes) kind body rest is))
+        ∙ ap (drop (suc (length body))) (sym (whole-split command-kinds (drop at bytes) kind body rest is))
         ∙ drop-drop (suc (length body)) at bytes
         ∙ ap (λ (n : ℕ). drop n bytes) (sym same-place) in
         record {

@@ -4,18 +4,15 @@ use Prim.Native.Nat.{ℕ, suc, _+_, _≤_, _<_}
 use native.Mathlib.Omega.{arith}
 use mathlib.Core.Path.{_≡_, refl, sym, ap, _∙_}
 use mathlib.Core.Logic.{⊎-elim}
-use mathlib.Core.Bool.{Bool, true, false}
-use mathlib.Core.Option.{Option, none, some}
 use mathlib.Core.List.{List, [], _∷_}
-use lib.ListN.{length, take, drop, length-drop}
+use lib.ListN.{length, drop, length-drop}
 use types.Run.{OneOf}
 use denote.Enum.Declared.{tagOf}
-use borrow.Table.Elements.{take-le}
-use lib.Dec.{leb}
-use Rattle.model.specs.House.{Next, lacking, unknown, cut, whole, next, of-kind, body-of}
+use Rattle.model.specs.House.{Next, lacking, unknown, cut, whole, next}
 use Rattle.model.specs.Net.{Core}
 use Rattle.model.specs.Text.{Text}
 use Rattle.model.specs.Transcript.{command-kinds}
+use Rattle.model.proofs.HouseLaws.{whole-length}
 use Rattle.moves.specs.Held.{Arrays}
 use Rattle.text.proofs.PutLaws.{put-then}
 use Rattle.decode.specs.Asked.{next-in, from-next}
@@ -27,21 +24,7 @@ use Rattle.turns.specs.Turn.{Turned}
 use Rattle.runs.specs.Went.{Went, nowhere, further, stop-of, Stops, no-command, Standing}
 use Rattle.runs.specs.declared.Stop.{Stop}
 
--- a whole record lies inside
-whole-inside : (bytes : List ℕ) (kind : ℕ) (body rest : List ℕ) → next command-kinds bytes ≡ whole kind body rest → suc (length body) ≤ length bytes
-unfolding next
-whole-inside [] kind body rest e = let z : _≡_ {A = ℕ} 0 1 = cc in absurd (omega arith)
-whole-inside (b ∷ bytes) kind body rest e = go (command-kinds b) e
-  where
-    inside : (t : Bool) (size : ℕ) → body-of t b size bytes ≡ whole kind body rest → suc (length body) ≤ suc (length bytes)
-    inside true size q = let same : body ≡ take size bytes = cc in omega (arith, ap length same, take-le size bytes)
-    inside false size q = let z : _≡_ {A = ℕ} 0 1 = cc in absurd (omega arith)
-
-    go : (o : Option ℕ) → of-kind o b bytes ≡ whole kind body rest → suc (length body) ≤ suc (length bytes)
-    go none q = let z : _≡_ {A = ℕ} 0 1 = cc in absurd (omega arith)
-    go (some size) q = inside (leb size (length bytes)) size q
-
--- so that the place behind it is further on, and no further than the end
+-- the place behind a whole record is further on, and no further than the end
 pub behind-inside : (bytes : List ℕ) (at : ℕ) (request : Request) (behind : ℕ) → NextRequest.Whole request behind ≡ next-in bytes at
     → (at < behind) × (behind ≤ length bytes)
 behind-inside bytes at request behind e = go (next command-kinds (drop at bytes)) refl e
@@ -52,8 +35,7 @@ behind-inside bytes at request behind e = go (next command-kinds (drop at bytes)
     go cut is q = let z : _≡_ {A = ℕ} 0 1 = cc in absurd (omega arith)
     go (whole kind body rest) is q =
         let same : behind ≡ at + suc (length body) = cc in
-        let fits = whole-inside (drop at bytes) kind body rest is in
-        (omega arith, omega (arith, length-drop at bytes))
+        (omega arith, omega (arith, length-drop at bytes, whole-length command-kinds (drop at bytes) kind body rest is))
 
 pub count-inside : {bytes : List ℕ} {first : Core} {from : ℕ} {net : Core} {at commands : ℕ} {lines : Text}
     → Went bytes first from net at commands lines → commands ≤ at
