@@ -1,14 +1,11 @@
 -- What stands at an offset, by the kind byte there and the bytes behind it: the cases of `next` for the table of commands. Assumes nothing.
 use Prim.Native.Nat.{ℕ, zero, suc, _+_, _-_, _≤_, _<_}
-use native.Mathlib.Omega.{arith}
-use native.Mathlib.Numerals.{add-one}
 use mathlib.Core.Path.{_≡_, refl, sym, ap, ap₂, _∙_}
 use mathlib.Core.Option.{none, some}
 use mathlib.Core.List.{List}
-use lib.ListN.{length, getD, take, drop, length-drop}
-use lib.Seq.{length-take-le}
+use lib.ListN.{length, getD, take, drop}
 use Rattle.model.specs.Transcript.{command-kinds}
-use Rattle.model.proofs.HouseLaws.{next-lacking, next-unknown, next-cut, next-whole}
+use Rattle.model.proofs.HouseLaws.{next-lacking, next-unknown, next-cut, next-whole, behind-whole}
 use Rattle.decode.specs.Asked.{size-told, next-in, from-next, request-of}
 use Rattle.decode.specs.declared.Request.{Request}
 use Rattle.decode.specs.declared.NextRequest.{NextRequest}
@@ -38,12 +35,5 @@ module _ (bytes : List ℕ) (at : ℕ) where
           → found ≡ request-of (getD bytes at 0) (take (at + 1 + size - (at + 1)) (drop (at + 1) bytes))
           → NextRequest.Whole found (at + 1 + size) ≡ next-in bytes at
       complete h found is =
-          let l : size ≤ length (drop (suc at) bytes) = omega (arith, length-drop (suc at) bytes) in
-          let counted : at + 1 + size - (at + 1) ≡ size = omega arith in
-          let started : at + 1 ≡ suc at = add-one at in
-          let behind : at + 1 + size ≡ at + suc (length (take size (drop (suc at) bytes)))
-          = omega (arith, length-take-le size (drop (suc at) bytes) l) in
-          ap₂ NextRequest.Whole
-          (is ∙ ap₂ (λ (n k : ℕ). request-of (getD bytes at 0) (take n (drop k bytes))) counted started)
-          behind
+          ap₂ NextRequest.Whole is (behind-whole command-kinds bytes at inside size long h)
           ∙ sym (ap (λ n. from-next n at) (next-whole command-kinds bytes at inside size long h))

@@ -2,13 +2,14 @@
 -- Assumes nothing.
 use Prim.Native.Nat.{ℕ, suc, _+_, _-_, _≤_, _<_}
 use native.Mathlib.Omega.{arith}
+use native.Mathlib.Numerals.{add-one}
 use borrow.Author.Tests.{le-leb, lt-leb}
 use mathlib.Core.Path.{_≡_, sym, ap, ap₂, _∙_}
 use mathlib.Core.Bool.{Bool, true, false}
 use mathlib.Core.Option.{Option, none, some}
 use mathlib.Core.List.{List, [], _∷_, _++_}
 use lib.ListN.{length, getD, take, drop, length-drop, length-append, take-append-drop, drop-of-length-le}
-use lib.Seq.{drop-cons}
+use lib.Seq.{drop-cons, length-take-le}
 use lib.Dec.{leb}
 use Rattle.model.specs.House.{Kinds, lacking, unknown, cut, whole, next, of-kind, body-of}
 
@@ -35,11 +36,24 @@ module _ (kinds : Kinds) (bytes : List ℕ) (at : ℕ) where
           let t = lt-leb size (length (drop (suc at) bytes)) (omega (arith, length-drop (suc at) bytes)) in
           known ∙ ap (λ (b : Bool). body-of b (getD bytes at 0) size (drop (suc at) bytes)) t
 
-      pub next-whole : size ≤ length bytes - at - 1
-          → next kinds (drop at bytes) ≡ whole (getD bytes at 0) (take size (drop (suc at) bytes)) (drop size (drop (suc at) bytes))
-      next-whole h =
-          let t = le-leb size (length (drop (suc at) bytes)) (omega (arith, length-drop (suc at) bytes)) in
-          known ∙ ap (λ (b : Bool). body-of b (getD bytes at 0) size (drop (suc at) bytes)) t
+      -- the body lies between the byte behind the kind and the place behind the record
+      module _ (fits : size ≤ length bytes - at - 1) where
+        pub next-whole : next kinds (drop at bytes)
+            ≡ whole (getD bytes at 0) (take (at + 1 + size - (at + 1)) (drop (at + 1) bytes)) (drop size (drop (suc at) bytes))
+        next-whole =
+            let t = le-leb size (length (drop (suc at) bytes)) (omega (arith, length-drop (suc at) bytes)) in
+            let counted : size ≡ at + 1 + size - (at + 1) = omega arith in
+            known
+            ∙ ap (λ (b : Bool). body-of b (getD bytes at 0) size (drop (suc at) bytes)) t
+            ∙ ap₂ (λ (n k : ℕ). whole (getD bytes at 0) (take n (drop k bytes)) (drop size (drop (suc at) bytes))) counted (sym (add-one at))
+
+        pub behind-whole : at + 1 + size ≡ at + suc (length (take (at + 1 + size - (at + 1)) (drop (at + 1) bytes)))
+        behind-whole =
+            omega (
+              arith,
+              length-drop (at + 1) bytes,
+              length-take-le (at + 1 + size - (at + 1)) (drop (at + 1) bytes) (omega (arith, length-drop (at + 1) bytes)),
+            )
 
 -- a whole record is a kind, its body and what follows
 pub whole-split : (kinds : Kinds) (bytes : List ℕ) (kind : ℕ) (body rest : List ℕ) → next kinds bytes ≡ whole kind body rest → bytes ≡ kind ∷ (body ++ rest)

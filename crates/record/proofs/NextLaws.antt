@@ -1,16 +1,13 @@
 -- What stands at an offset, by the kind byte there and the bytes behind it: the cases of `next` for the table of a plan's kinds.
 -- Assumes nothing.
-use Prim.Native.Nat.{ℕ, suc, _+_, _-_, _≤_, _<_}
-use native.Mathlib.Omega.{arith}
-use native.Mathlib.Numerals.{add-one}
+use Prim.Native.Nat.{ℕ, _+_, _-_, _≤_, _<_}
 use mathlib.Core.Path.{_≡_, sym, ap, ap₂, _∙_}
 use mathlib.Core.Option.{none, some}
 use mathlib.Core.List.{List}
-use lib.ListN.{length, getD, take, drop, length-drop}
-use lib.Seq.{length-take-le}
+use lib.ListN.{length, getD, take, drop}
 use Rattle.model.specs.Plan.{plan-kinds}
 use Rattle.model.specs.declared.PlanRecord.{PlanRecord}
-use Rattle.model.proofs.HouseLaws.{next-lacking, next-unknown, next-cut, next-whole}
+use Rattle.model.proofs.HouseLaws.{next-lacking, next-unknown, next-cut, next-whole, behind-whole}
 use Rattle.record.specs.Step.{next-in, from-next, record-of}
 use Rattle.record.specs.declared.NextRecord.{NextRecord}
 
@@ -32,12 +29,5 @@ module _ (bytes : List ℕ) (at : ℕ) where
           → found ≡ record-of (getD bytes at 0) (take (at + 1 + size - (at + 1)) (drop (at + 1) bytes))
           → NextRecord.Whole found (at + 1 + size) ≡ next-in bytes at
       complete h found is =
-          let l : size ≤ length (drop (suc at) bytes) = omega (arith, length-drop (suc at) bytes) in
-          let counted : at + 1 + size - (at + 1) ≡ size = omega arith in
-          let started : at + 1 ≡ suc at = add-one at in
-          let behind : at + 1 + size ≡ at + suc (length (take size (drop (suc at) bytes)))
-          = omega (arith, length-take-le size (drop (suc at) bytes) l) in
-          ap₂ NextRecord.Whole
-          (is ∙ ap₂ (λ (n k : ℕ). record-of (getD bytes at 0) (take n (drop k bytes))) counted started)
-          behind
+          ap₂ NextRecord.Whole is (behind-whole plan-kinds bytes at inside size long h)
           ∙ sym (ap (λ n. from-next n at) (next-whole plan-kinds bytes at inside size long h))

@@ -33,9 +33,10 @@ loop-holds c = λ first run. begins run
 
 abbrev entry : tie.At-loop Inv-loop μ-loop → tie.Start Inv-loop μ-loop
 entry c =
-    let lent = c .before .before in
-    let owned = lent .before .before .before .before .before in
-    owned .before .before .before .before .before
+    let lent = c .before .before .before in
+    let owned = lent .before .before .before .before in
+    let first = owned .before .before .before in
+    first .before .before
 
 -- where the run of the net at entry stands
 abbrev stands : (c : tie.At-loop Inv-loop μ-loop) → let s = entry c in

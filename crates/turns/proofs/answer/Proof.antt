@@ -9,7 +9,8 @@ use Rattle.turns.proofs.answer.Tie as tie
 abbrev entry : tie.After-shared-slice-known4 → tie.Start
 entry c =
     let owned = c .before .before .before .before in
-    owned .before .before .before .before .before
+    let first = owned .before .before .before in
+    first .before .before
 
 -- A start
 
