@@ -208,7 +208,8 @@ pub record Parented (rs : List Record) (cs : List Call) (keys open-nodes : List 
   pub node-told : getD open-nodes at 0 ≡ who .node
   pub listed : has-node rs (who .node) ≡ true
 
-module _ {rs : List Record} {cs : List Call} {tickets keys open-nodes places edges : List ℕ} {used : ℕ} (seen : CallSeen rs cs tickets keys open-nodes places edges used) where
+module _ {rs : List Record} {cs : List Call} {tickets keys open-nodes places edges : List ℕ} {used : ℕ}
+    (seen : CallSeen rs cs tickets keys open-nodes places edges used) where
   pub parented : (parent ticket other at : ℕ) → (ticket ≡ no-ticket → ⊥) → other ≡ first most-open (holds tickets ticket) → other ≡ most-open
       → (parent ≡ no-ticket → ⊥) → at ≡ first most-open (holds tickets parent) → (at ≡ most-open → ⊥) → Parented rs cs keys open-nodes parent ticket at
   parented parent ticket other at apart other-is none-there some-parent at-is some-place =

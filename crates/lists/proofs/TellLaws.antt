@@ -48,7 +48,8 @@ module _ {A : Type 0} where
   place-inside f [] y e = let z : _≡_ {A = ℕ} 0 1 = cc in absurd (omega arith)
   place-inside f (x ∷ xs) y e = go (f x) e (place-inside f xs y)
     where
-      go : (b : Bool) → cond b (some x) (found f xs) ≡ some y → (found f xs ≡ some y → first-place f xs < length xs) → cond b 0 (suc (first-place f xs)) < suc (length xs)
+      go : (b : Bool) → cond b (some x) (found f xs) ≡ some y → (found f xs ≡ some y → first-place f xs < length xs)
+          → cond b 0 (suc (first-place f xs)) < suc (length xs)
       go true h ih = omega arith
       go false h ih = omega (arith, ih h)
 
@@ -162,7 +163,8 @@ module _ {A : Type 0} where
       go : (b : Bool) → any f xs ≡ b → holds-below n (passes-at f xs) ≡ b
       go true e =
           let w = any-passes f xs e in
-          ⊎-elim (λ q. q) (λ q. absurd (never-both (w .2) (some-none n (passes-at f xs) q (w .0) (omega (arith, w .1))))) (decided (holds-below n (passes-at f xs)))
+          ⊎-elim (λ q. q) (λ q. absurd (never-both (w .2) (some-none n (passes-at f xs) q (w .0) (omega (arith, w .1)))))
+          (decided (holds-below n (passes-at f xs)))
       go false e = none-some n (passes-at f xs) (λ k l. none-passes f xs e k)
 
   -- and whether any passes is whether one is found

@@ -4,7 +4,8 @@ use mathlib.Core.Path.{_≡_, refl, ap, ap₂}
 use Prim.Native.Nat.{ℕ, suc}
 use native.Mathlib.Omega.{arith}
 use Rattle.model.specs.Answers.{toldLevel, toldAdmission, toldRoom}
-use Rattle.model.specs.Command.{Answer, refused, active, waiting, ended, told, Standing, is-running, is-waiting, not-open, told-standing, Roomed, has-room, no-answer, told-roomed}
+use Rattle.model.specs.Command.{Answer, refused, active, waiting, ended, told, Standing, is-running, is-waiting, not-open, told-standing}
+use Rattle.model.specs.Command.{Roomed, has-room, no-answer, told-roomed}
 use Rattle.model.specs.declared.LevelAnswer.{LevelAnswer}
 use Rattle.model.specs.declared.AdmissionAnswer.{AdmissionAnswer}
 use Rattle.model.specs.declared.RoomAnswer.{RoomAnswer}

@@ -57,7 +57,8 @@ module _ (rs : List Record) (s : ℕ) where
   counts-length [] = length-replicate {A = ℕ} most-threads 0
   counts-length (c ∷ cs) = go (active-on rs s c) (counts-length cs)
     where
-      go : (b : Bool) → length (counts rs cs s) ≡ most-threads → length (cond b (raised (counts rs cs s) (level-of rs (c .node))) (counts rs cs s)) ≡ most-threads
+      go : (b : Bool) → length (counts rs cs s) ≡ most-threads
+          → length (cond b (raised (counts rs cs s) (level-of rs (c .node))) (counts rs cs s)) ≡ most-threads
       go true e = raised-length (counts rs cs s) (level-of rs (c .node)) ∙ e
       go false e = e
 

@@ -11,7 +11,8 @@ use lib.ListN.{length}
 use lib.Dec.{eqb}
 use borrow.Author.Tests.{ne-eqb, le-leb, lt-leb, not-true, not-false}
 use Rattle.model.specs.House.{unknown, cut, whole, next}
-use Rattle.model.specs.Plan.{Record, site, node, edge, Levels, six, follows, in-range, known, level-below, room-for, record-fault, loops, self-depends, end-fault, plan-kinds, bytes-of}
+use Rattle.model.specs.Plan.{Record, site, node, edge, Levels, six, follows, in-range, known, level-below, room-for, record-fault, loops}
+use Rattle.model.specs.Plan.{self-depends, end-fault, plan-kinds, bytes-of}
 use Rattle.model.specs.Reading.{Ends, decoded}
 use Rattle.model.proofs.TestLaws.{absent, lone, absent-never, first-fault-is}
 use Rattle.model.specs.Faults.{fault-at, Fault, no-kind, strange-kind, short-body, of-record, of-plan, Given}

@@ -14,10 +14,12 @@ use Rattle.ids.specs.Limits.{no-ticket, most-open}
 use Rattle.lists.specs.Count.{one}
 use Rattle.lists.specs.Pick.{count, changed}
 use Rattle.lists.proofs.CountLaws.{never-both, and-left, and-right}
-use Rattle.lists.proofs.PickLaws.{count-more, count-none, count-without, count-changed, found-in, found-none, found-more, found-without, found-changed, in-without, in-changed, changed-none, length-without, length-changed, any-none}
+use Rattle.lists.proofs.PickLaws.{count-more, count-none, count-without, count-changed, found-in, found-none, found-more, found-without}
+use Rattle.lists.proofs.PickLaws.{found-changed, in-without, in-changed, changed-none, length-without, length-changed, any-none}
 use Rattle.model.specs.Site.{lawful, raised}
 use Rattle.model.specs.Plan.{Record, threads, calls, six, passes}
-use Rattle.model.specs.Net.{Call, Core, has-node, site-of, level-of, has, lookup, is-child, has-child, on, active-on, waits-on, counts, admissible, newcomer, opened, closed, may-wake, waker, activated, woken}
+use Rattle.model.specs.Net.{Call, Core, has-node, site-of, level-of, has, lookup, is-child, has-child, on, active-on, waits-on, counts}
+use Rattle.model.specs.Net.{admissible, newcomer, opened, closed, may-wake, waker, activated, woken}
 use Rattle.model.specs.NetRules.{Keeps, parent-stands, parent-kept, Lawful, Firm, Newcomer, Ending}
 use Rattle.model.proofs.SiteLaws.{A-one, lawful-at, lawful-all}
 use Rattle.model.proofs.RuleLaws.{S}
@@ -40,7 +42,8 @@ keeps-firm net k =
 -- A parent stands as long as its ticket finds it, active and with its node
 
 pub parent-still : (rs : List Record) (cs ds : List Call) (c : Call)
-    → ((p : Call) → lookup cs (c .parent) ≡ some p → (q : Call) × (lookup ds (c .parent) ≡ some q) × (q .node ≡ p .node) × (p .active ≡ true → q .active ≡ true))
+    → ((p : Call) → lookup cs (c .parent) ≡ some p
+    → (q : Call) × (lookup ds (c .parent) ≡ some q) × (q .node ≡ p .node) × (p .active ≡ true → q .active ≡ true))
     → parent-kept rs cs c ≡ true → parent-kept rs ds c ≡ true
 unfolding parent-kept
 parent-still rs cs ds c still e = go (eqb (c .parent) no-ticket) e

@@ -98,7 +98,8 @@ module _ (net : Core) (k : Keeps net) where
             d,
             b .1,
             here .1,
-            by-call (yes (child-edge c e m n q)) (go (or-right (calls (net .plan) (e .node) (d .node)) (site-steps (net .plan) (e .node) (d .node)) step-down) stay),
+            by-call (yes (child-edge c e m n q))
+                (go (or-right (calls (net .plan) (e .node) (d .node)) (site-steps (net .plan) (e .node) (d .node)) step-down) stay),
           )
 
   module _ (ok : PlanOk (net .plan)) where

@@ -6,7 +6,8 @@ use mathlib.Core.List.{List, [], _∷_}
 use Rattle.lists.specs.Pick.{any, found, without, changed}
 use Rattle.model.specs.Site.{A, lawful, raised, may-admit}
 use Rattle.model.specs.Plan.{threads, place, calls}
-use Rattle.model.specs.Net.{has-node, site-of, level-of, has, is-child, has-child, on, active-on, waits-on, counts, admissible, newcomer, opened, closed, may-wake, waker, woken}
+use Rattle.model.specs.Net.{has-node, site-of, level-of, has, is-child, has-child, on, active-on, waits-on, counts, admissible, newcomer}
+use Rattle.model.specs.Net.{opened, closed, may-wake, waker, woken}
 use Rattle.model.specs.Command.{Command, start, return, refused, ended, waiting, fault, opening, serving, step, run, answers}
 use Rattle.model.specs.Useless.{small-net}
 

@@ -17,7 +17,8 @@ use Rattle.model.specs.Site.{lawful}
 use Rattle.model.specs.Plan.{Record, threads, six, passes}
 use Rattle.model.specs.Faults.{Given}
 use Rattle.model.specs.Net.{Call, Core, has-node, has, counts}
-use Rattle.model.specs.NetRules.{Book, parent-kept, could-go, NetRules, same-list, own-ticket, some-ticket, tickets-kept, book-kept, all-lawful, rule-tests, broken-rule}
+use Rattle.model.specs.NetRules.{Book, parent-kept, could-go, NetRules, same-list, own-ticket, some-ticket, tickets-kept, book-kept, all-lawful}
+use Rattle.model.specs.NetRules.{rule-tests, broken-rule}
 use Rattle.model.proofs.SiteLaws.{lawful-all}
 use Rattle.model.proofs.TestLaws.{lone, first-fault-is}
 use Rattle.model.proofs.RecordLaws.{threads-listed, passes-ok}

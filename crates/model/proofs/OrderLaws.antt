@@ -16,7 +16,8 @@ use Rattle.lists.proofs.PickLaws.{count-some, count-more, count-fewer, count-wi
 use Rattle.lists.proofs.PickLaws.{found-in, found-none, found-some, found-more, found-last, found-without, found-changed, found-picked, in-without}
 use Rattle.lists.proofs.PickLaws.{changed-none, changed-there, none-changed, picked-more, picked-without, picked-changed, picked-apart, picked-all, all-picked}
 use Rattle.model.specs.Plan.{Record}
-use Rattle.model.specs.Net.{Call, has, lookup, is-child, has-child, on, waits-on, waiting-order, admissible, newcomer, opened, closed, may-wake, waker, activated, woken}
+use Rattle.model.specs.Net.{Call, has, lookup, is-child, has-child, on, waits-on, waiting-order, admissible, newcomer, opened, closed, may-wake}
+use Rattle.model.specs.Net.{waker, activated, woken}
 use Rattle.model.proofs.FirmLaws.{waits-site}
 
 -- The waiting order
@@ -116,7 +117,8 @@ module _ (cs : List Call) where
       go (some c) e (some d) q =
           let w = found-in (has ticket) (without (has ticket) cs) c e in
           let v = found-in (has ticket) cs d q in
-          absurd (omega (arith, count-without (has ticket) (has ticket) cs d q, ap one (v .1), count-some (has ticket) (without (has ticket) cs) c (w .0) (w .1)))
+          absurd
+          (omega (arith, count-without (has ticket) (has ticket) cs d q, ap one (v .1), count-some (has ticket) (without (has ticket) cs) c (w .0) (w .1)))
 
   -- a call that is woken is found as it then is, and every other as before
   pub lookup-woken : (rs : List Record) (s t : ℕ) (c : Call) → lookup cs t ≡ some c

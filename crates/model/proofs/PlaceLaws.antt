@@ -60,7 +60,11 @@ module _ (rs : List Record) where
     level-below-threads n e =
         let ok = passes-ok six rs pass in
         let w = ok .node-site n (site-of rs n) (level-of rs n) (node-record n e) in
-        omega (arith, levels-below rs pass n (site-of rs n) (level-of rs n) (w .0) (node-record n e) (w .1), listed-threads rs (site-of rs n) (w .0) (ok .rising) (w .1))
+        omega (
+          arith,
+          levels-below rs pass n (site-of rs n) (level-of rs n) (w .0) (node-record n e) (w .1),
+          listed-threads rs (site-of rs n) (w .0) (ok .rising) (w .1),
+        )
 
     pub site-small : (n : ℕ) → has-node rs n ≡ true → site-of rs n < sites
     site-small n e =

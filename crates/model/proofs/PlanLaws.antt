@@ -13,7 +13,8 @@ use mir.Facts.{and-yes, yes-and}
 use borrow.Author.Tests.{eq-eqb}
 use Rattle.lists.proofs.CountLaws.{never-both, not-true-false}
 use Rattle.model.specs.Graph.{either, Depends, via}
-use Rattle.model.specs.Plan.{Record, node, edge, Place, nodes-of, edges-of, place, among, calls, six, passes, descends, site-steps, no-steps, numbers, listed, some-backwards, closed-backwards, loops, self-depends, end-fault, encode}
+use Rattle.model.specs.Plan.{Record, node, edge, Place, nodes-of, edges-of, place, among, calls, six, passes, descends, site-steps, no-steps}
+use Rattle.model.specs.Plan.{numbers, listed, some-backwards, closed-backwards, loops, self-depends, end-fault, encode}
 use Rattle.model.specs.Records.{RecordsOk}
 use Rattle.model.specs.Reading.{accepted, read, PlanOk}
 use Rattle.model.proofs.GraphLaws.{yes, is-true, or-cases, or-left, or-right, via-sound, via-complete, circle-edge}

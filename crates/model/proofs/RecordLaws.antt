@@ -11,9 +11,11 @@ use lib.Dec.{ltb, leb, eqb}
 use borrow.Author.Tests.{ltb-true, lt-ltb, leb-true, le-leb, eqb-false, ne-eqb, not-true}
 use Rattle.lists.proofs.CountLaws.{never-both, and-left, and-right, and-both}
 use Rattle.ids.specs.Limits.{sites, most-threads, nodes, most-edges}
-use Rattle.model.specs.Plan.{Record, site, node, edge, Place, as-site, as-node, sites-of, nodes-of, entry, or-zero, threads, place, present, edges, Levels, six, first-fault, in-range, known, level-below, room-for, record-fault, passes}
+use Rattle.model.specs.Plan.{Record, site, node, edge, Place, as-site, as-node, sites-of, nodes-of, entry, or-zero, threads, place, present}
+use Rattle.model.specs.Plan.{edges, Levels, six, first-fault, in-range, known, level-below, room-for, record-fault, passes}
 use Rattle.model.specs.Records.{kind, Rises, Rising, Listed, RecordsOk, LevelsBelow, LevelsPass}
-use Rattle.model.proofs.KindLaws.{never-falls, follows-all, all-follows, past, rises-number, site-only, node-only, in-sites, sites-in, in-nodes, nodes-in, Falling, entry-in, in-entry, falling}
+use Rattle.model.proofs.KindLaws.{never-falls, follows-all, all-follows, past, rises-number, site-only, node-only, in-sites, sites-in}
+use Rattle.model.proofs.KindLaws.{in-nodes, nodes-in, Falling, entry-in, in-entry, falling}
 use Rattle.model.proofs.TestLaws.{record-sound}
 use Rattle.model.proofs.TurnLaws.{passes-step}
 

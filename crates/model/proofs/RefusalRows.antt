@@ -1,5 +1,5 @@
--- The tests of a command decide the rows of 01's table, in a net that keeps the rules: each test fails exactly where its row holds, once the tests before it have
--- passed. So a number is given exactly when its row is the first that holds. Assumes nothing.
+-- The tests of a command decide the rows of 01's table, in a net that keeps the rules: each test fails exactly where its row holds, once the tests
+-- before it have passed. So a number is given exactly when its row is the first that holds. Assumes nothing.
 use Prim.Native.Nat.{ℕ}
 use native.Mathlib.Omega.{arith}
 use mathlib.Core.Path.{_≡_, refl, sym, ap, subst, _∙_}

@@ -14,11 +14,14 @@ use Rattle.ids.specs.Limits.{no-ticket}
 use Rattle.lists.specs.Count.{one}
 use Rattle.lists.specs.Pick.{count, found, without, changed}
 use Rattle.lists.proofs.CountLaws.{decided, never-both, and-left, and-right, and-both}
-use Rattle.lists.proofs.PickLaws.{count-all, count-none, count-some, some-counted, count-more, count-without, count-changed, changed-none, found-in, found-none, found-alike, only-one}
+use Rattle.lists.proofs.PickLaws.{count-all, count-none, count-some, some-counted, count-more, count-without, count-changed, changed-none, found-in}
+use Rattle.lists.proofs.PickLaws.{found-none, found-alike, only-one}
 use Rattle.model.specs.Plan.{Record, threads, six, passes}
 use Rattle.model.specs.Site.{may-admit, room}
-use Rattle.model.specs.Net.{Call, Core, site-of, level-of, has, lookup, ticket-of, has-child, counts, waiting-order, admissible, newcomer, opened, closed, may-wake, waker, activated, woken}
-use Rattle.model.specs.Command.{Command, start, call, return, refused, active, waiting, ended, fault, opening, serving, done, step, run, ask, standing, has-room, no-answer, room-at}
+use Rattle.model.specs.Net.{Call, Core, site-of, level-of, has, lookup, ticket-of, has-child, counts, waiting-order, admissible, newcomer}
+use Rattle.model.specs.Net.{opened, closed, may-wake, waker, activated, woken}
+use Rattle.model.specs.Command.{Command, start, call, return, refused, active, waiting, ended, fault, opening, serving, done, step, run, ask}
+use Rattle.model.specs.Command.{standing, has-room, no-answer, room-at}
 use Rattle.model.specs.NetRules.{Keeps, Ending}
 use Rattle.model.specs.Same.{Same}
 use Rattle.model.proofs.CountsLaws.{of-level, counts-alike}

@@ -17,7 +17,8 @@ use Rattle.lists.proofs.PickLaws.{one-most, found-none, changed-none}
 use Rattle.model.specs.Site.{A, raised}
 use Rattle.model.specs.Rule.{Blocked}
 use Rattle.model.specs.Plan.{Record, threads}
-use Rattle.model.specs.Net.{Call, has-node, site-of, level-of, has, on, active-on, waits-on, counts, admissible, newcomer, opened, closed, may-wake, waker, activated, woken}
+use Rattle.model.specs.Net.{Call, has-node, site-of, level-of, has, on, active-on, waits-on, counts, admissible, newcomer, opened, closed}
+use Rattle.model.specs.Net.{may-wake, waker, activated, woken}
 use Rattle.model.specs.NetRules.{could-go, Firm, Newcomer, Ending}
 use Rattle.model.proofs.SiteLaws.{A-one}
 use Rattle.model.proofs.RuleLaws.{D, M, X}
@@ -176,7 +177,8 @@ module _ (rs : List Record) (cs : List Call) (f : Firm rs cs) (settled : Settled
         (omega arith)
         b)
 
-    others-held : (c : Call) → List·Memᴰ c left → c .active ≡ false → site-of rs (c .node) ≡ here → Held-back rs (woken rs left here) here (level-of rs (c .node))
+    others-held : (c : Call) → List·Memᴰ c left → c .active ≡ false → site-of rs (c .node) ≡ here
+        → Held-back rs (woken rs left here) here (level-of rs (c .node))
     others-held c m w same =
         let e = waker-fits rs left left-firm here d chosen in
         ⊎-elim

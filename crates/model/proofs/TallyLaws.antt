@@ -17,7 +17,8 @@ use Rattle.lists.proofs.CountLaws.{decided}
 use Rattle.lists.proofs.PickLaws.{count-more, count-without, count-changed, changed-none, in-without, length-without, length-changed}
 use Rattle.model.specs.Plan.{Record, six, passes}
 use Rattle.model.specs.Reading.{PlanOk}
-use Rattle.model.specs.Net.{Call, Core, empty-net, site-of, has, lookup, node-of, ticket-of, on, active-on, admissible, newcomer, opened, closed, may-wake, waker, activated, woken}
+use Rattle.model.specs.Net.{Call, Core, empty-net, site-of, has, lookup, node-of, ticket-of, on, active-on, admissible, newcomer, opened}
+use Rattle.model.specs.Net.{closed, may-wake, waker, activated, woken}
 use Rattle.model.specs.Command.{Command, start, call, return, Answer, refused, active, waiting, fault, Outcome, opening, serving, done, step, run}
 use Rattle.model.specs.NetRules.{Keeps, Ending}
 use Rattle.model.specs.Tally.{active-calls, admits, returns, command-site, tally, AllAccepted, all-returns}

@@ -1,4 +1,5 @@
--- A number's decimal digits read back as the number, each byte is a digit, and the first is no 0 unless the number is. By induction over the places. Assumes nothing.
+-- A number's decimal digits read back as the number, each byte is a digit, and the first is no 0 unless the number is. By induction over the places.
+-- Assumes nothing.
 use Prim.Native.Nat.{ℕ, zero, suc, _+_, _-_, _*_, _/_, _%_, _^_, _≤_, _<_}
 use native.Mathlib.Nat.{pow-suc}
 use native.Mathlib.Omega.{arith}
@@ -70,7 +71,8 @@ abbrev is-digit : ℕ → Bool
 is-digit b = leb (digit 0) b && leb b (digit 9)
 
 digit-is : (d : ℕ) → d < 10 → is-digit (digit d) ≡ true
-digit-is d h = and-both (leb (digit 0) (digit d)) (leb (digit d) (digit 9)) (le-leb (digit 0) (digit d) (omega arith)) (le-leb (digit d) (digit 9) (omega arith))
+digit-is d h =
+    and-both (leb (digit 0) (digit d)) (leb (digit d) (digit 9)) (le-leb (digit 0) (digit d) (omega arith)) (le-leb (digit d) (digit 9) (omega arith))
 
 all-more : (f : ℕ → Bool) (xs : Text) (y : ℕ) → all f xs ≡ true → f y ≡ true → all f (xs ++ (y ∷ [])) ≡ true
 unfolding all

@@ -10,7 +10,8 @@ use Rattle.ids.specs.Limits.{no-ticket, most-open}
 use Rattle.ids.specs.Made.{Told}
 use Rattle.model.specs.Site.{room}
 use Rattle.model.specs.Plan.{Record, threads, calls, first-fault}
-use Rattle.model.specs.Net.{Call, Core, has-node, site-of, lookup, is-open, is-active, node-of, ticket-of, has-child, counts, admissible, opened, closed, waker, woken}
+use Rattle.model.specs.Net.{Call, Core, has-node, site-of, lookup, is-open, is-active, node-of, ticket-of, has-child, counts, admissible}
+use Rattle.model.specs.Net.{opened, closed, waker, woken}
 
 pub data Command : Type 0 where
   -- ticket, node

@@ -13,7 +13,8 @@ use Rattle.model.specs.Site.{may-admit}
 use Rattle.model.specs.Plan.{Record, threads, encode}
 use Rattle.model.specs.Reading.{accepted, refused as not-read, read, PlanOk}
 use Rattle.model.specs.PlanValue.{empty-plan, reading-plan}
-use Rattle.model.specs.Net.{Call, Core, empty-net, site-of, level-of, lookup, ticket-of, has-child, above, counts, waiting-order, admissible, newcomer, closed, woken}
+use Rattle.model.specs.Net.{Call, Core, empty-net, site-of, level-of, lookup, ticket-of, has-child, above, counts, waiting-order, admissible}
+use Rattle.model.specs.Net.{newcomer, closed, woken}
 use Rattle.model.specs.Command.{Command, start, call, return, refused, active, waiting, ended, order, fault, step, run}
 use Rattle.model.specs.NetRules.{Keeps}
 use Rattle.model.specs.Refusals.{rows, First}
@@ -47,7 +48,8 @@ pub record Demand-2 : Type 0 where
   -- a start or a call that is accepted is active if the site stays lawful with one call more of its level, else waiting
   pub opening-answer : (net : Core) (command : Command) (parent ticket node : ℕ) → Opens command parent ticket node → fault net command ≡ 0
       → step net command .answer
-      ≡ cond (may-admit (threads (net .plan) (site-of (net .plan) node)) (counts (net .plan) (net .calls) (site-of (net .plan) node)) (level-of (net .plan) node))
+      ≡ cond
+      (may-admit (threads (net .plan) (site-of (net .plan) node)) (counts (net .plan) (net .calls) (site-of (net .plan) node)) (level-of (net .plan) node))
       active waiting
   -- "and leaves the state that the paper and the rules define": the call stands behind those opened before
   pub opening-state : (net : Core) (command : Command) (parent ticket node : ℕ) → Opens command parent ticket node → fault net command ≡ 0

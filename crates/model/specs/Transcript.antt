@@ -10,7 +10,8 @@ use Rattle.model.specs.Plan.{sites-of, listed, edges}
 use Rattle.model.specs.Reading.{Reading, accepted, refused, read}
 use Rattle.model.specs.Net.{Core, empty-net}
 use Rattle.model.specs.Command.{Command, start, call, return, step, ask, room-at}
-use Rattle.model.specs.Text.{Text, newline, answer-text, standing-text, room-text, command-text, ask-text, room-asked-text, plan-line, plan-refused-line, done-line, bad-line}
+use Rattle.model.specs.Text.{Text, newline, answer-text, standing-text, room-text, command-text, ask-text, room-asked-text, plan-line}
+use Rattle.model.specs.Text.{plan-refused-line, done-line, bad-line}
 
 -- what a record asks for
 pub data Request : Type 0 where

@@ -22,7 +22,8 @@ use Rattle.moves.specs.Held.{Arrays, arrays, Held, CanClose}
 use Rattle.moves.proofs.RoomLaws.{giving, rooms-given}
 use Rattle.moves.proofs.TableLaws.{tells-table, tells-closed}
 
-module _ {rs : List Record} {cs : List Call} {ticket : ℕ} {gone : Call} {a : Arrays} {used at site level : ℕ} (ok : CanClose rs cs ticket gone a used at site level) where
+module _ {rs : List Record} {cs : List Call} {ticket : ℕ} {gone : Call} {a : Arrays} {used at site level : ℕ}
+    (ok : CanClose rs cs ticket gone a used at site level) where
   known : has-node rs (gone .node) ≡ true
   known = ok .held .firm .known gone (found-in (has ticket) cs gone (ok .ending .stands) .0)
 

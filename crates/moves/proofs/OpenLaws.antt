@@ -25,7 +25,8 @@ use Rattle.moves.proofs.TableLaws.{tells-opened, tells-opened-0}
 
 -- The limit of a site
 
-module _ {rs : List Record} {cs : List Call} {a : Arrays} {used site most : ℕ} (held : Held rs cs a used) (inside : site < sites) (threads-are : most ≡ threads rs site) where
+module _ {rs : List Record} {cs : List Call} {a : Arrays} {used site most : ℕ} (held : Held rs cs a used) (inside : site < sites)
+    (threads-are : most ≡ threads rs site) where
   pub site-limited : Limited (a .rooms) (most-threads * site) most
   site-limited =
       subst (Limited (a .rooms) (most-threads * site)) (sym threads-are)
@@ -39,7 +40,8 @@ module _ {rs : List Record} {cs : List Call} {a : Arrays} {used site most : ℕ}
 
 -- A node's site and level, and the limit there
 
-module _ {rs : List Record} {cs : List Call} {a : Arrays} {used : ℕ} (held : Held rs cs a used) {node site level most : ℕ} (placed : Placed rs node site level most) where
+module _ {rs : List Record} {cs : List Call} {a : Arrays} {used : ℕ} (held : Held rs cs a used) {node site level most : ℕ}
+    (placed : Placed rs node site level most) where
   pub site-inside : site < sites
   site-inside = omega (arith, placed .site-is, site-small rs (held .firm .pass) node (placed .known))
 
@@ -80,7 +82,8 @@ module _ {rs : List Record} {cs : List Call} {a : Arrays} {used : ℕ} (held : H
 
 -- The arrays afterwards
 
-module _ {rs : List Record} {cs : List Call} {a : Arrays} {used parent ticket node site level most : ℕ} (ok : CanOpen rs cs a used parent ticket node site level most) where
+module _ {rs : List Record} {cs : List Call} {a : Arrays} {used parent ticket node site level most : ℕ}
+    (ok : CanOpen rs cs a used parent ticket node site level most) where
   abbrev new : Call
   new = newcomer rs cs parent ticket node
 
@@ -103,7 +106,8 @@ module _ {rs : List Record} {cs : List Call} {a : Arrays} {used parent ticket no
   -- with its key and the rooms
   opened-held : (keys rooms : List ℕ) → Tells (key-of rs) (opened rs cs parent ticket node) keys
       → RoomsTell rs (counts rs (opened rs cs parent ticket node)) rooms
-      → Held rs (opened rs cs parent ticket node) (arrays (set (a .tickets) used ticket) (set (a .parents) used parent) keys (set (a .nodes) used node) rooms) (used + 1)
+      → Held rs (opened rs cs parent ticket node)
+      (arrays (set (a .tickets) used ticket) (set (a .parents) used parent) keys (set (a .nodes) used node) rooms) (used + 1)
   unfolding newcomer
   opened-held keys rooms of-keys of-rooms =
       record {
@@ -145,7 +149,8 @@ module _ {rs : List Record} {cs : List Call} {a : Arrays} {used parent ticket no
 
   pub opened-active : admissible rs cs node ≡ true → (rooms : List ℕ)
       → Filled (renewed one-less (a .rooms)) (most-threads * site) (most-threads * site + (level + 1)) (a .rooms) rooms
-      → Held rs (opened rs cs parent ticket node) (arrays (set (a .tickets) used ticket) (set (a .parents) used parent) (a .keys) (set (a .nodes) used node) rooms) (used + 1)
+      → Held rs (opened rs cs parent ticket node)
+      (arrays (set (a .tickets) used ticket) (set (a .parents) used parent) (a .keys) (set (a .nodes) used node) rooms) (used + 1)
   unfolding opened newcomer key-of
   opened-active e rooms filled =
       let f = ok .held .firm in
@@ -158,7 +163,8 @@ module _ {rs : List Record} {cs : List Call} {a : Arrays} {used parent ticket no
 
   pub opened-waiting : admissible rs cs node ≡ false
       → Held rs (opened rs cs parent ticket node)
-      (arrays (set (a .tickets) used ticket) (set (a .parents) used parent) (set (a .keys) used (most-threads * site + level + 1)) (set (a .nodes) used node) (a .rooms))
+      (arrays (set (a .tickets) used ticket) (set (a .parents) used parent) (set (a .keys) used (most-threads * site + level + 1))
+      (set (a .nodes) used node) (a .rooms))
       (used + 1)
   unfolding newcomer key-of
   opened-waiting e =

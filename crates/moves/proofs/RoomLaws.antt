@@ -71,7 +71,8 @@ module _ (rs : List Record) (book : Book) (rooms : List ℕ) (tells : RoomsTell 
     rooms-limit law = first-same T (no-room rooms base) (full T (book s)) (full-room law)
 
     -- what has changed at this site alone
-    elsewhere-same : (after : List ℕ) (next : Book) (change : ℕ → ℕ) (i : ℕ) → i < most-threads → Filled (renewed change rooms) base (base + (i + 1)) rooms after
+    elsewhere-same : (after : List ℕ) (next : Book) (change : ℕ → ℕ) (i : ℕ) → i < most-threads
+        → Filled (renewed change rooms) base (base + (i + 1)) rooms after
         → ((r : ℕ) → (r ≡ s → ⊥) → next r ≡ book r)
         → ((k : ℕ) → k < most-threads → getD after (base + k) 0 ≡ room-byte T (next s) k)
         → RoomsTell rs next after

@@ -162,7 +162,8 @@ module _ {rs : List Record} {cs : List Call} {a : Arrays} {used site most : ℕ}
   served w rooms filled = (
     ticket-is ok (w .who) at (w .chosen) (w .here) ∙ sym (ap ticket-of (w .chosen)),
     woken-held ok (w .who) at (w .chosen) (w .here) rooms
-        (subst (λ (l : ℕ). Filled (renewed one-less (a .rooms)) (most-threads * site) (most-threads * site + (l + 1)) (a .rooms) rooms) (sym (w .level-told)) filled),
+        (subst (λ (l : ℕ). Filled (renewed one-less (a .rooms)) (most-threads * site) (most-threads * site + (l + 1)) (a .rooms) rooms)
+        (sym (w .level-told)) filled),
   )
 
   pub unserved : at ≡ most-open → (no-ticket ≡ ticket-of (waker rs cs site)) × Held rs (woken rs cs site) a used

@@ -16,7 +16,8 @@ use Rattle.ids.specs.Limits.{most-open}
 use Rattle.lists.specs.Count.{first, some as holds-below}
 use Rattle.lists.specs.Pick.{any, found, without, changed, tell, passes-at, first-place}
 use Rattle.lists.proofs.CountLaws.{decided, lt-or-ge}
-use Rattle.lists.proofs.TellLaws.{first-same, some-same, tell-past, tell-more, place-inside, tell-place, tell-without, tell-changed, tell-blind, first-passes, some-passes, any-found, any-not-found}
+use Rattle.lists.proofs.TellLaws.{first-same, some-same, tell-past, tell-more, place-inside, tell-place, tell-without, tell-changed, tell-blind}
+use Rattle.lists.proofs.TellLaws.{first-passes, some-passes, any-found, any-not-found}
 use Rattle.model.specs.Net.{Call, has, lookup, is-child}
 use Rattle.table.specs.Places.{holds, Table, next-of, Closing}
 use Rattle.moves.specs.Held.{Tells}

@@ -66,7 +66,8 @@ module _ (rs : List Record) (cs : List Call) (f : Firm rs cs) where
       asleep false = refl
 
       go : (a : Bool)
-          → (ltb (most-threads * s) (cond a 0 (most-threads * site + level + 1)) && leb (cond a 0 (most-threads * site + level + 1)) (most-threads * s + limit-at rs cs s))
+          → (ltb (most-threads * s) (cond a 0 (most-threads * site + level + 1))
+          && leb (cond a 0 (most-threads * site + level + 1)) (most-threads * s + limit-at rs cs s))
           ≡ (eqb site s && not a && admissible rs cs (c .node))
       go true = ap (λ (b : Bool). b && leb 0 (most-threads * s + limit-at rs cs s)) (le-ltb (most-threads * s) 0 (omega arith)) ∙ asleep (eqb site s)
       go false = between-is site level s (limit-at rs cs s) (level-small rs (f .pass) (c .node)) (limit-small s) ∙ test (eqb site s) refl

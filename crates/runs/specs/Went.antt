@@ -38,7 +38,8 @@ pub data Stops (bytes : List ℕ) (at room : ℕ) (why : Stop) : Type 0 where
       → Stops bytes at room why
 
 -- where a run stands
-pub record Standing (first : Core) (b : Arrays) (used : ℕ) (most-of places levels edges bytes : List ℕ) (from at commands : ℕ) (old new : List ℕ) (to : ℕ) : Type 0 where
+pub record Standing (first : Core) (b : Arrays) (used : ℕ) (most-of places levels edges bytes : List ℕ) (from at commands : ℕ) (old new : List ℕ)
+    (to : ℕ) : Type 0 where
   pub net : Core
   pub lines : Text
   pub went : Went bytes first from net at commands lines

@@ -57,7 +57,8 @@ module _ (T : ℕ) (a : List ℕ) (ok : Counted T a) (sizes slacks : List ℕ) (
     admitted : refused T a ≡ false
     admitted = not-refused T a (record { some = ok .some; most = ok .most; long = ok .long; within = ok .within; law = law })
 
-    walks-tree : (h n carried : ℕ) → h ≤ root-height → most-threads ≤ n * 2 ^ h → (n + 1) * 2 ^ h ≤ places → no-slack + (size a h (first-level h n) + carried) < unlimited
+    walks-tree : (h n carried : ℕ) → h ≤ root-height → most-threads ≤ n * 2 ^ h → (n + 1) * 2 ^ h ≤ places
+        → no-slack + (size a h (first-level h n) + carried) < unlimited
         → walk-in sizes slacks h n carried ≡ walk T a h (first-level h n) carried
     unfolding walk size
     walks-tree zero n carried most low high small =

@@ -39,7 +39,8 @@ Answers a b used used-after what most-of places levels edges request =
 -- A turn
 
 -- the net after it, and its line behind what was written
-pub record Turned (net : Core) (request : Request) (b : Arrays) (used : ℕ) (most-of places levels edges old : List ℕ) (at : ℕ) (new : List ℕ) (to : ℕ) : Type 0 where
+pub record Turned (net : Core) (request : Request) (b : Arrays) (used : ℕ) (most-of places levels edges old : List ℕ) (at : ℕ) (new : List ℕ)
+    (to : ℕ) : Type 0 where
   pub runs-on : Running (after net (asked request)) b used most-of places levels edges
   pub written : Put old at (line net (asked request)) new to
 

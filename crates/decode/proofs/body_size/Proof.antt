@@ -21,7 +21,13 @@ returns-5 c = rw (c .match .keys5)
 returns-6 : tie.Need-returns-6
 returns-6 c =
     let others = c .match .rest in
-    rw (ne-eqb _ 0x10 (others .0 .0 .0 .0 .1), ne-eqb _ 0x11 (others .0 .0 .0 .1), ne-eqb _ 0x12 (others .0 .0 .1), ne-eqb _ 0x13 (others .0 .1), ne-eqb _ 0x14 (others .1))
+    rw (
+      ne-eqb _ 0x10 (others .0 .0 .0 .0 .1),
+      ne-eqb _ 0x11 (others .0 .0 .0 .1),
+      ne-eqb _ 0x12 (others .0 .0 .1),
+      ne-eqb _ 0x13 (others .0 .1),
+      ne-eqb _ 0x14 (others .1),
+    )
 
 pub body-size-spec : {M : Type 1} → statement M
 body-size-spec =

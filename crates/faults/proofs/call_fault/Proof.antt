@@ -82,7 +82,8 @@ returns-6 c =
     let at-node = c .before in
     let at-parent = at-node .before .before .before in
     λ rs cs seen.
-    node-lacking seen _ (some-ticket at-parent) (parent at-parent rs cs seen) (at-node .before .if5 .left) (denied _ _ (at-node .has-node .ensures) (c .if6 .taken))
+    node-lacking seen _ (some-ticket at-parent) (parent at-parent rs cs seen) (at-node .before .if5 .left)
+    (denied _ _ (at-node .has-node .ensures) (c .if6 .taken))
 
 -- behind the node's record
 abbrev behind : tie.Else6 → tie.Else4
@@ -99,7 +100,8 @@ shared-slice-read-if7-2 c =
     let at-node = c .before .before .before in
     let at-parent = behind (c .before .before) in
     let seen = start (at-parent .before) .pre .2 in
-    pair-inside seen _ (some-ticket at-parent) (parent at-parent _ _ seen) (at-node .before .if5 .left) (granted _ _ (at-node .has-node .ensures) (c .before .before .if6 .left))
+    pair-inside seen _ (some-ticket at-parent) (parent at-parent _ _ seen) (at-node .before .if5 .left)
+    (granted _ _ (at-node .has-node .ensures) (c .before .before .if6 .left))
 
 returns-7 : tie.Need-returns-7
 returns-7 c =
@@ -107,7 +109,8 @@ returns-7 c =
     let at-node = at-listed .before in
     let at-parent = behind at-listed in
     λ rs cs seen.
-    no-edge seen _ (some-ticket at-parent) (parent at-parent rs cs seen) (at-node .before .if5 .left) (granted _ _ (at-node .has-node .ensures) (at-listed .if6 .left))
+    no-edge seen _ (some-ticket at-parent) (parent at-parent rs cs seen) (at-node .before .if5 .left)
+    (granted _ _ (at-node .has-node .ensures) (at-listed .if6 .left))
     (c .if7 .taken)
 
 returns-8 : tie.Need-returns-8
@@ -117,7 +120,8 @@ returns-8 c =
     let at-node = at-listed .before in
     let at-parent = behind at-listed in
     λ rs cs seen.
-    table-full seen _ (some-ticket at-parent) (parent at-parent rs cs seen) (at-node .before .if5 .left) (granted _ _ (at-node .has-node .ensures) (at-listed .if6 .left))
+    table-full seen _ (some-ticket at-parent) (parent at-parent rs cs seen) (at-node .before .if5 .left)
+    (granted _ _ (at-node .has-node .ensures) (at-listed .if6 .left))
     (at-edge .if7 .left) (c .if8 .taken)
 
 returns-9 : tie.Need-returns-9
@@ -127,7 +131,8 @@ returns-9 c =
     let at-node = at-listed .before in
     let at-parent = behind at-listed in
     λ rs cs seen.
-    call-passes seen _ (some-ticket at-parent) (parent at-parent rs cs seen) (at-node .before .if5 .left) (granted _ _ (at-node .has-node .ensures) (at-listed .if6 .left))
+    call-passes seen _ (some-ticket at-parent) (parent at-parent rs cs seen) (at-node .before .if5 .left)
+    (granted _ _ (at-node .has-node .ensures) (at-listed .if6 .left))
     (at-edge .if7 .left) (c .if8 .left)
 
 -- a node of an open call is a byte

@@ -18,12 +18,14 @@ use Rattle.runs.proofs.run.Statement.{statement}
 use Rattle.runs.proofs.run.Tie as tie
 
 abbrev Inv-loop : tie.InvT-loop
-Inv-loop tickets₀ parents₀ keys₀ nodes₀ rooms₀ used threads places levels edges bytes from text₀ calls₀ at₀ to₀ commands₀ tickets parents keys nodes rooms text calls at to commands =
+Inv-loop tickets₀ parents₀ keys₀ nodes₀ rooms₀ used threads places levels edges bytes from text₀ calls₀ at₀ to₀ commands₀
+    tickets parents keys nodes rooms text calls at to commands =
     (first : Core) → Running first (arrays tickets₀ parents₀ keys₀ nodes₀ rooms₀) used threads places levels edges
     → Standing first (arrays tickets parents keys nodes rooms) calls threads places levels edges bytes from at commands text₀ text to
 
 abbrev μ-loop : tie.MeasureT-loop
-μ-loop tickets₀ parents₀ keys₀ nodes₀ rooms₀ used threads places levels edges bytes from text₀ calls₀ at₀ to₀ commands₀ tickets parents keys nodes rooms text calls at to commands =
+μ-loop tickets₀ parents₀ keys₀ nodes₀ rooms₀ used threads places levels edges bytes from text₀ calls₀ at₀ to₀ commands₀
+    tickets parents keys nodes rooms text calls at to commands =
     length bytes - at
 
 loop-holds : tie.Need-loop-holds Inv-loop μ-loop

@@ -38,7 +38,8 @@ loop-again c =
 returns-2 : tie.Need-returns-2 Inv-loop μ-loop
 returns-2 c =
     let start = c .before .before .before in
-    none-found _ (start .args .used) (c .before .loop .base) (between-quiet (start .pre) (start .args .low) (start .args .top)) (omega arith) (c .before .loop .inv .0)
+    none-found _ (start .args .used) (c .before .loop .base) (between-quiet (start .pre) (start .args .low) (start .args .top)) (omega arith)
+    (c .before .loop .inv .0)
 
 pub waiter-spec : {M : Type 1} → statement M
 waiter-spec =
