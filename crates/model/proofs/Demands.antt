@@ -11,7 +11,7 @@ use Rattle.lists.specs.Pick.{count}
 use Rattle.model.specs.Plan.{threads}
 use Rattle.model.specs.Reading.{PlanOk}
 use Rattle.model.specs.PlanValue.{reading-plan}
-use Rattle.model.specs.Net.{Call, Core, empty-net, site-of, lookup, node-of, ticket-of, above, counts, admissible, opened, closed, waker}
+use Rattle.model.specs.Net.{Call, Core, empty-net, site-of, lookup, node-of, ticket-of, above, counts, admissible, opened, closed, to-wake}
 use Rattle.model.specs.Command.{Command, start, call, return, ended, fault, Outcome, opening, serving, done, step, run}
 use Rattle.model.specs.NetRules.{Keeps}
 use Rattle.model.specs.Demands.{Demand-1, Opens, by-start, by-call, Demand-2, Safe, Demand-3, Drains}
@@ -19,7 +19,7 @@ use Rattle.model.proofs.SiteLaws.{lawful-at}
 use Rattle.model.proofs.PlanLaws.{accepted-exactly}
 use Rattle.model.proofs.CountsLaws.{A-counts}
 use Rattle.model.proofs.SettledLaws.{waits-held}
-use Rattle.model.proofs.OrderLaws.{waker-oldest}
+use Rattle.model.proofs.OrderLaws.{to-wake-oldest}
 use Rattle.model.proofs.StepLaws.{accepted-step, refused-step, run-keeps, empty-keeps, run-plan}
 use Rattle.model.proofs.GivenLaws.{from-table}
 use Rattle.model.proofs.RefusalRows.{refused-exactly, accepted-exactly-when}
@@ -65,7 +65,7 @@ demand-2 =
       opening-state = λ net command parent ticket node o e. ap (λ (r : Outcome). r .core) (opens-step net command parent ticket node o e);
       return-answer = λ net ticket gone found e.
           ap (λ (r : Outcome). r .answer) (return-step net ticket gone found e)
-          ∙ ap (λ (w : Option Call). ended (ticket-of w)) (waker-oldest (net .plan) (closed (net .calls) ticket) (site-of (net .plan) (gone .node)));
+          ∙ ap (λ (w : Option Call). ended (ticket-of w)) (to-wake-oldest (net .plan) (closed (net .calls) ticket) (site-of (net .plan) (gone .node)));
       return-state = λ net ticket gone found e. ap (λ (r : Outcome). r .core) (return-step net ticket gone found e);
     }
 
@@ -87,7 +87,7 @@ module _ (net : Core) (k : Keeps net) where
   free-ended : (d : Call) → fault net (return (d .ticket)) ≡ 0 → (t : ℕ) × (step net (return (d .ticket)) .answer ≡ ended t)
   unfolding serving
   free-ended d e = (
-    ticket-of (waker (net .plan) (closed (net .calls) (d .ticket)) (site-of (net .plan) (node-of (lookup (net .calls) (d .ticket))))),
+    ticket-of (to-wake (net .plan) (closed (net .calls) (d .ticket)) (site-of (net .plan) (node-of (lookup (net .calls) (d .ticket))))),
     ap (λ (r : Outcome). r .answer) (accepted-step net (return (d .ticket)) e),
   )
 

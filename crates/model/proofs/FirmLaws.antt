@@ -19,7 +19,7 @@ use Rattle.lists.proofs.PickLaws.{found-changed, in-without, in-changed, change
 use Rattle.model.specs.Site.{lawful, raised}
 use Rattle.model.specs.Plan.{Record, threads, calls, six, passes}
 use Rattle.model.specs.Net.{Call, Core, has-node, site-of, level-of, has, lookup, is-child, has-child, on, active-on, waits-on, counts}
-use Rattle.model.specs.Net.{admissible, newcomer, opened, closed, may-wake, waker, activated, woken}
+use Rattle.model.specs.Net.{admissible, newcomer, opened, closed, may-wake, to-wake, activated, woken}
 use Rattle.model.specs.NetRules.{Keeps, parent-stands, parent-kept, Lawful, Firm, Newcomer, Ending}
 use Rattle.model.proofs.SiteLaws.{A-one, lawful-at, lawful-all}
 use Rattle.model.proofs.RuleLaws.{S}
@@ -216,26 +216,26 @@ module _ (rs : List Record) (cs : List Call) (f : Firm rs cs) (ticket : ℕ) (go
 
 module _ (rs : List Record) (cs : List Call) (f : Firm rs cs) (s : ℕ) where
   -- the one that is woken waited here and may be admitted
-  pub waker-fits : (c : Call) → waker rs cs s ≡ some c
+  pub to-wake-fits : (c : Call) → to-wake rs cs s ≡ some c
       → List·Memᴰ c cs × (site-of rs (c .node) ≡ s) × (c .active ≡ false) × (admissible rs cs (c .node) ≡ true)
-  unfolding waker may-wake
-  waker-fits c e =
+  unfolding to-wake may-wake
+  to-wake-fits c e =
       let w = found-in (may-wake rs cs s) cs c e in
       let here = waits-site rs s c (and-left (waits-on rs s c) (admissible rs cs (c .node)) (w .1)) in
       (w .0, here .0, here .1, and-right (waits-on rs s c) (admissible rs cs (c .node)) (w .1))
 
   -- each open call is one of before, or the woken one
   pub in-woken : (c : Call) → List·Memᴰ c (woken rs cs s) → (P : Call → Type 0)
-      → ((d : Call) → List·Memᴰ d cs → P d) → ((d : Call) → waker rs cs s ≡ some d → P (activated d)) → P c
-  unfolding woken waker
+      → ((d : Call) → List·Memᴰ d cs → P d) → ((d : Call) → to-wake rs cs s ≡ some d → P (activated d)) → P c
+  unfolding woken to-wake
   in-woken c m P old fresh =
       ⊎-elim (λ i. old c i) (λ w. subst P (sym (w .2)) (fresh (w .0) (w .1))) (in-changed activated (may-wake rs cs s) cs c m)
 
   woken-tickets : (t : ℕ) → count (has t) (woken rs cs s) ≡ count (has t) cs
-  unfolding woken waker has
-  woken-tickets t = go (waker rs cs s) refl
+  unfolding woken to-wake has
+  woken-tickets t = go (to-wake rs cs s) refl
     where
-      go : (o : Option Call) → waker rs cs s ≡ o → count (has t) (changed activated (may-wake rs cs s) cs) ≡ count (has t) cs
+      go : (o : Option Call) → to-wake rs cs s ≡ o → count (has t) (changed activated (may-wake rs cs s) cs) ≡ count (has t) cs
       go none e = ap (count (has t)) (changed-none activated (may-wake rs cs s) cs e)
       go (some c) e = omega (arith, count-changed activated (may-wake rs cs s) (has t) cs c e)
 
@@ -250,13 +250,13 @@ module _ (rs : List Record) (cs : List Call) (f : Firm rs cs) (s : ℕ) where
       (found-changed activated (may-wake rs cs s) (has (c .parent)) cs p (λ x. refl) e))
 
   woken-law : (r : ℕ) → lawful (threads rs r) (counts rs (woken rs cs s) r) ≡ true
-  unfolding woken waker
-  woken-law r = go (waker rs cs s) refl
+  unfolding woken to-wake
+  woken-law r = go (to-wake rs cs s) refl
     where
-      go : (o : Option Call) → waker rs cs s ≡ o → lawful (threads rs r) (counts rs (changed activated (may-wake rs cs s) cs) r) ≡ true
+      go : (o : Option Call) → to-wake rs cs s ≡ o → lawful (threads rs r) (counts rs (changed activated (may-wake rs cs s) cs) r) ≡ true
       go none e = rw (changed-none activated (may-wake rs cs s) cs e) (f .law r)
       go (some c) e =
-          let w = waker-fits c e in
+          let w = to-wake-fits c e in
           rw (counts-woken rs r (f .pass) (may-wake rs cs s) cs c e (w .2))
           (more-lawful rs cs (f .pass) (f .law) (c .node) r (f .known c (w .0)) (w .3) (on rs r c) (on-site rs r c))
 
@@ -267,11 +267,11 @@ module _ (rs : List Record) (cs : List Call) (f : Firm rs cs) (s : ℕ) where
         pass = f .pass;
         differ = λ t. omega (arith, woken-tickets t, f .differ t);
         none-0 = omega (arith, woken-tickets no-ticket, f .none-0);
-        known = λ c m. in-woken c m (λ d. has-node rs (d .node) ≡ true) (f .known) (λ d e. f .known d (waker-fits d e .0));
+        known = λ c m. in-woken c m (λ d. has-node rs (d .node) ≡ true) (f .known) (λ d e. f .known d (to-wake-fits d e .0));
         kept = λ c m.
             in-woken c m (λ d. parent-kept rs (woken rs cs s) d ≡ true)
             (λ d i. woken-kept d (f .kept d i))
-            (λ d e. woken-kept d (f .kept d (waker-fits d e .0)));
+            (λ d e. woken-kept d (f .kept d (to-wake-fits d e .0)));
         law = woken-law;
         few = omega (arith, length-changed activated (may-wake rs cs s) cs, f .few);
       }

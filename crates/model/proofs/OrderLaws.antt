@@ -17,7 +17,7 @@ use Rattle.lists.proofs.PickLaws.{found-in, found-none, found-some, found-more,
 use Rattle.lists.proofs.PickLaws.{changed-none, changed-there, none-changed, picked-more, picked-without, picked-changed, picked-apart, picked-all, all-picked}
 use Rattle.model.specs.Plan.{Record}
 use Rattle.model.specs.Net.{Call, has, lookup, is-child, has-child, on, waits-on, waiting-order, admissible, newcomer, opened, closed, may-wake}
-use Rattle.model.specs.Net.{waker, activated, woken}
+use Rattle.model.specs.Net.{to-wake, activated, woken}
 use Rattle.model.proofs.FirmLaws.{waits-site}
 
 -- The waiting order
@@ -39,9 +39,9 @@ module _ (rs : List Record) (cs : List Call) (s : ℕ) where
       )
 
   -- "the one that has waited longest" of those that may be admitted: the first of the waiting order
-  pub waker-oldest : waker rs cs s ≡ found (λ c. admissible rs cs (c .node)) (waiting-order rs cs s)
-  unfolding waker may-wake waiting-order
-  waker-oldest = found-picked (waits-on rs s) (λ c. admissible rs cs (c .node)) cs
+  pub to-wake-oldest : to-wake rs cs s ≡ found (λ c. admissible rs cs (c .node)) (waiting-order rs cs s)
+  unfolding to-wake may-wake waiting-order
+  to-wake-oldest = found-picked (waits-on rs s) (λ c. admissible rs cs (c .node)) cs
 
   -- "else it waits, last at its site"
   pub order-opened : (parent ticket node : ℕ) →
@@ -131,9 +131,9 @@ module _ (cs : List Call) where
   lookup-woken-none rs s t e = none-changed activated (may-wake rs cs s) (has t) cs (λ x. refl) e
 
   -- the ticket that a return names is found active
-  pub lookup-named : (rs : List Record) (s : ℕ) (d : Call) → waker rs cs s ≡ some d → count (has (d .ticket)) cs ≤ 1
+  pub lookup-named : (rs : List Record) (s : ℕ) (d : Call) → to-wake rs cs s ≡ some d → count (has (d .ticket)) cs ≤ 1
       → lookup (woken rs cs s) (d .ticket) ≡ some (activated d)
-  unfolding woken waker has
+  unfolding woken to-wake has
   lookup-named rs s d chosen once =
       let ds = changed activated (may-wake rs cs s) cs in
       let own = eq-eqb (d .ticket) (d .ticket) refl in
@@ -159,9 +159,9 @@ module _ (cs : List Call) (t : ℕ) where
   children-closed ticket c e = count-without (has ticket) (is-child t) cs c e
 
   pub children-woken : (rs : List Record) (s : ℕ) → count (is-child t) (woken rs cs s) ≡ count (is-child t) cs
-  unfolding woken is-child waker
-  children-woken rs s = go (waker rs cs s) refl
+  unfolding woken is-child to-wake
+  children-woken rs s = go (to-wake rs cs s) refl
     where
-      go : (o : Option Call) → waker rs cs s ≡ o → count (is-child t) (changed activated (may-wake rs cs s) cs) ≡ count (is-child t) cs
+      go : (o : Option Call) → to-wake rs cs s ≡ o → count (is-child t) (changed activated (may-wake rs cs s) cs) ≡ count (is-child t) cs
       go none e = ap (count (is-child t)) (changed-none activated (may-wake rs cs s) cs e)
       go (some c) e = omega (arith, count-changed activated (may-wake rs cs s) (is-child t) cs c e)

@@ -19,13 +19,13 @@ use Rattle.lists.proofs.PickLaws.{found-none, found-alike, only-one}
 use Rattle.model.specs.Plan.{Record, threads, six, passes}
 use Rattle.model.specs.Site.{may-admit, room}
 use Rattle.model.specs.Net.{Call, Core, site-of, level-of, has, lookup, ticket-of, has-child, counts, waiting-order, admissible, newcomer}
-use Rattle.model.specs.Net.{opened, closed, may-wake, waker, activated, woken}
+use Rattle.model.specs.Net.{opened, closed, may-wake, to-wake, activated, woken}
 use Rattle.model.specs.Command.{Command, start, call, return, refused, active, waiting, ended, fault, opening, serving, done, step, run, ask}
 use Rattle.model.specs.Command.{standing, has-room, no-answer, room-at}
 use Rattle.model.specs.NetRules.{Keeps, Ending}
 use Rattle.model.specs.Same.{Same}
 use Rattle.model.proofs.CountsLaws.{of-level, counts-alike}
-use Rattle.model.proofs.OrderLaws.{waker-oldest, order-opened, order-closed, order-woken, order-elsewhere, has-child-counted}
+use Rattle.model.proofs.OrderLaws.{to-wake-oldest, order-opened, order-closed, order-woken, order-elsewhere, has-child-counted}
 use Rattle.model.proofs.StepLaws.{accepted-step, refused-step, return-fits, step-keeps}
 use Rattle.model.proofs.FreeLaws.{found-by-ticket}
 
@@ -95,23 +95,23 @@ module _ (rs : List Record) (cs ds : List Call) (alike : Alike cs ds) (orders : 
     unfolding admissible
     admissible-same n = ap (λ (a : List ℕ). may-admit (threads rs (site-of rs n)) a (level-of rs n)) (counts-same (site-of rs n))
 
-    waker-same : (s : ℕ) → waker rs cs s ≡ waker rs ds s
-    waker-same s =
-        waker-oldest rs cs s
+    to-wake-same : (s : ℕ) → to-wake rs cs s ≡ to-wake rs ds s
+    to-wake-same s =
+        to-wake-oldest rs cs s
         ∙ found-alike (λ c. admissible rs cs (c .node)) (λ c. admissible rs ds (c .node)) (waiting-order rs cs s) (λ c m. admissible-same (c .node))
         ∙ ap (found (λ c. admissible rs ds (c .node))) (orders s)
-        ∙ sym (waker-oldest rs ds s)
+        ∙ sym (to-wake-oldest rs ds s)
 
     woken-alike : (s : ℕ) → Alike (woken rs cs s) (woken rs ds s)
-    unfolding woken waker
-    woken-alike s f = go (waker rs cs s) refl
+    unfolding woken to-wake
+    woken-alike s f = go (to-wake rs cs s) refl
       where
-        go : (o : Option Call) → waker rs cs s ≡ o → count f (changed activated (may-wake rs cs s) cs) ≡ count f (changed activated (may-wake rs ds s) ds)
+        go : (o : Option Call) → to-wake rs cs s ≡ o → count f (changed activated (may-wake rs cs s) cs) ≡ count f (changed activated (may-wake rs ds s) ds)
         go none e =
-            let e′ : waker rs ds s ≡ none = sym (waker-same s) ∙ e in
+            let e′ : to-wake rs ds s ≡ none = sym (to-wake-same s) ∙ e in
             ap (count f) (changed-none activated (may-wake rs cs s) cs e) ∙ alike f ∙ sym (ap (count f) (changed-none activated (may-wake rs ds s) ds e′))
         go (some c) e =
-            let e′ : waker rs ds s ≡ some c = sym (waker-same s) ∙ e in
+            let e′ : to-wake rs ds s ≡ some c = sym (to-wake-same s) ∙ e in
             omega (arith, count-changed activated (may-wake rs cs s) f cs c e, count-changed activated (may-wake rs ds s) f ds c e′, alike f)
 
     woken-orders : (s r : ℕ) → waiting-order rs (woken rs cs s) r ≡ waiting-order rs (woken rs ds s) r
@@ -210,7 +210,7 @@ module _ (rs : List Record) (cs ds : List Call) (k : Keeps (net-of rs cs)) (l : 
       let left = closed-alike ticket gone (w .1 .stands) in
       let order = left-orders ticket gone (v .0) (w .1) (v .1) in
       rw (← (lookup-same ticket), w .1 .stands) (
-        ap (λ (o : Option Call). ended (ticket-of o)) (waker-same rs (closed cs ticket) (closed ds ticket) left order (k .plan-passes) s),
+        ap (λ (o : Option Call). ended (ticket-of o)) (to-wake-same rs (closed cs ticket) (closed ds ticket) left order (k .plan-passes) s),
         record {
           plans = refl;
           calls = woken-alike rs (closed cs ticket) (closed ds ticket) left order (k .plan-passes) s;

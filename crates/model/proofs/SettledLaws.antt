@@ -18,14 +18,14 @@ use Rattle.model.specs.Site.{A, raised}
 use Rattle.model.specs.Rule.{Blocked}
 use Rattle.model.specs.Plan.{Record, threads}
 use Rattle.model.specs.Net.{Call, has-node, site-of, level-of, has, on, active-on, waits-on, counts, admissible, newcomer, opened, closed}
-use Rattle.model.specs.Net.{may-wake, waker, activated, woken}
+use Rattle.model.specs.Net.{may-wake, to-wake, activated, woken}
 use Rattle.model.specs.NetRules.{could-go, Firm, Newcomer, Ending}
 use Rattle.model.proofs.SiteLaws.{A-one}
 use Rattle.model.proofs.RuleLaws.{D, M, X}
 use Rattle.model.proofs.PlaceLaws.{level-small}
 use Rattle.model.proofs.CountsLaws.{more, counts-length, counts-opened, counts-closed, counts-woken}
 use Rattle.model.proofs.AdmitLaws.{rule, rule-sound, Held-back, blocked, held-back}
-use Rattle.model.proofs.FirmLaws.{opened-firm, closed-firm, woken-firm, in-opened, in-closed, waker-fits, in-woken}
+use Rattle.model.proofs.FirmLaws.{opened-firm, closed-firm, woken-firm, in-opened, in-closed, to-wake-fits, in-woken}
 
 abbrev pub Settled : List Record → List Call → Type 0
 Settled rs cs = (c : Call) → List·Memᴰ c cs → could-go rs cs c ≡ false
@@ -109,26 +109,26 @@ module _ (rs : List Record) (cs : List Call) (f : Firm rs cs) (settled : Settled
   not-there s c apart = ne-eqb (site-of rs (c .node)) s apart
 
   elsewhere : (s : ℕ) → (here ≡ s → ⊥) → counts rs (woken rs left here) s ≡ counts rs cs s
-  unfolding closed woken waker active-on
-  elsewhere s apart = go (waker rs left here) refl ∙ sym closed-same
+  unfolding closed woken to-wake active-on
+  elsewhere s apart = go (to-wake rs left here) refl ∙ sym closed-same
     where
       closed-same : counts rs cs s ≡ counts rs left s
       closed-same =
           counts-closed rs s (f .pass) (has ticket) cs gone (end .stands)
           ∙ ap (λ (b : Bool). more (b && gone .active) (counts rs left s) (level-of rs (gone .node))) (not-there s gone apart)
 
-      go : (o : Option Call) → waker rs left here ≡ o → counts rs (changed activated (may-wake rs left here) left) s ≡ counts rs left s
+      go : (o : Option Call) → to-wake rs left here ≡ o → counts rs (changed activated (may-wake rs left here) left) s ≡ counts rs left s
       go none e = ap (λ (ds : List Call). counts rs ds s) (changed-none activated (may-wake rs left here) left e)
       go (some d) e =
-          let w = waker-fits rs left left-firm here d e in
+          let w = to-wake-fits rs left left-firm here d e in
           counts-woken rs s (f .pass) (may-wake rs left here) left d e (w .2)
           ∙ ap (λ (b : Bool). more b (counts rs left s) (level-of rs (d .node))) (not-there s d (λ q. apart (sym (w .1) ∙ q)))
 
   -- Here nobody was admitted, so nobody who waits may be
 
-  nobody-left : waker rs left here ≡ none → (c : Call) → List·Memᴰ c left → c .active ≡ false → site-of rs (c .node) ≡ here
+  nobody-left : to-wake rs left here ≡ none → (c : Call) → List·Memᴰ c left → c .active ≡ false → site-of rs (c .node) ≡ here
       → admissible rs (woken rs left here) (c .node) ≡ false
-  unfolding waker woken may-wake waits-on on
+  unfolding to-wake woken may-wake waits-on on
   nobody-left e c m w same =
       rw (changed-none activated (may-wake rs left here) left e) (go (admissible rs left (c .node)) refl)
     where
@@ -143,7 +143,7 @@ module _ (rs : List Record) (cs : List Call) (f : Firm rs cs) (settled : Settled
 
   -- Or one was, and then the others are held back as before
 
-  module _ (d : Call) (chosen : waker rs left here ≡ some d) where
+  module _ (d : Call) (chosen : to-wake rs left here ≡ some d) where
     thread-back : (k : ℕ) → A (counts rs cs here) k ≤ A (counts rs left here) k + 1
     unfolding closed
     thread-back k =
@@ -161,9 +161,9 @@ module _ (rs : List Record) (cs : List Call) (f : Firm rs cs) (settled : Settled
         go false = omega arith
 
     counts-here : counts rs (woken rs left here) here ≡ raised (counts rs left here) (level-of rs (d .node))
-    unfolding woken waker on
+    unfolding woken to-wake on
     counts-here =
-        let w = waker-fits rs left left-firm here d chosen in
+        let w = to-wake-fits rs left left-firm here d chosen in
         counts-woken rs here (f .pass) (may-wake rs left here) left d chosen (w .2)
         ∙ ap (λ (b : Bool). more b (counts rs left here) (level-of rs (d .node))) (eq-eqb (site-of rs (d .node)) here (w .1))
 
@@ -180,7 +180,7 @@ module _ (rs : List Record) (cs : List Call) (f : Firm rs cs) (settled : Settled
     others-held : (c : Call) → List·Memᴰ c left → c .active ≡ false → site-of rs (c .node) ≡ here
         → Held-back rs (woken rs left here) here (level-of rs (c .node))
     others-held c m w same =
-        let e = waker-fits rs left left-firm here d chosen in
+        let e = to-wake-fits rs left left-firm here d chosen in
         ⊎-elim
         (λ (p : level-of rs (c .node) < level-of rs (d .node)). still-blocked (level-of rs (c .node)) (omega arith) (was c m w same))
         (λ (p : level-of rs (d .node) ≤ level-of rs (c .node)).
@@ -196,9 +196,9 @@ module _ (rs : List Record) (cs : List Call) (f : Firm rs cs) (settled : Settled
   -- "after it no other waiting call there is admissible" ("At most one is admitted": `order-woken`, of OrderLaws)
   pub one-is-enough : (c : Call) → List·Memᴰ c left → c .active ≡ false → site-of rs (c .node) ≡ here
       → admissible rs (woken rs left here) (c .node) ≡ false
-  one-is-enough c m w same = go (waker rs left here) refl
+  one-is-enough c m w same = go (to-wake rs left here) refl
     where
-      go : (o : Option Call) → waker rs left here ≡ o → admissible rs (woken rs left here) (c .node) ≡ false
+      go : (o : Option Call) → to-wake rs left here ≡ o → admissible rs (woken rs left here) (c .node) ≡ false
       go none e = nobody-left e c m w same
       go (some d) e =
           held-back rs (f .pass) (woken rs left here) (after-firm .law) (c .node) (left-firm .known c m)

@@ -18,11 +18,11 @@ use Rattle.lists.proofs.PickLaws.{count-more, count-without, count-changed, cha
 use Rattle.model.specs.Plan.{Record, six, passes}
 use Rattle.model.specs.Reading.{PlanOk}
 use Rattle.model.specs.Net.{Call, Core, empty-net, site-of, has, lookup, node-of, ticket-of, on, active-on, admissible, newcomer, opened}
-use Rattle.model.specs.Net.{closed, may-wake, waker, activated, woken}
+use Rattle.model.specs.Net.{closed, may-wake, to-wake, activated, woken}
 use Rattle.model.specs.Command.{Command, start, call, return, Answer, refused, active, waiting, fault, Outcome, opening, serving, done, step, run}
 use Rattle.model.specs.NetRules.{Keeps, Ending}
 use Rattle.model.specs.Tally.{active-calls, admits, returns, command-site, tally, AllAccepted, all-returns}
-use Rattle.model.proofs.FirmLaws.{keeps-firm, closed-firm, waker-fits}
+use Rattle.model.proofs.FirmLaws.{keeps-firm, closed-firm, to-wake-fits}
 use Rattle.model.proofs.StepLaws.{accepted-step, refused-step, return-fits, step-keeps, empty-keeps, step-plan}
 use Rattle.model.proofs.FreeLaws.{Free, somebody-free, free-returns, ticket-not-0}
 
@@ -75,13 +75,13 @@ module _ (net : Core) (k : Keeps net) (ticket : ℕ) (gone : Call) (end : Ending
           at true = refl
           at false = refl
 
-  woken-one : (o : Option Call) → waker rs left home ≡ o
+  woken-one : (o : Option Call) → to-wake rs left home ≡ o
       → count (active-on rs s) (woken rs left home) ≡ count (active-on rs s) left + one (eqb home s && not (eqb (ticket-of o) no-ticket))
-  unfolding waker woken active-on on closed
+  unfolding to-wake woken active-on on closed
   woken-one none e = omega (arith, ap (count (active-on rs s)) (changed-none activated (may-wake rs left home) left e), never (eqb home s))
   woken-one (some d) e =
       let f = closed-firm rs (net .calls) (keeps-firm net k) ticket gone end in
-      let w = waker-fits rs left f home d e in
+      let w = to-wake-fits rs left f home d e in
       let some-ticket = ne-eqb (d .ticket) no-ticket (ticket-not-0 net k d (in-without (has ticket) (net .calls) d (w .0))) in
       omega (
         arith,
@@ -94,7 +94,7 @@ module _ (net : Core) (k : Keeps net) (ticket : ℕ) (gone : Call) (end : Ending
 
   return-balanced : Balanced rs s (eqb home s) (net .calls) (serving rs left home)
   unfolding Balanced serving
-  return-balanced = omega (arith, thread-back, woken-one (waker rs left home) refl, at (eqb home s))
+  return-balanced = omega (arith, thread-back, woken-one (to-wake rs left home) refl, at (eqb home s))
     where
       at : (b : Bool) → one (b && true) ≡ one b
       at true = refl

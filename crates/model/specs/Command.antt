@@ -11,7 +11,7 @@ use Rattle.ids.specs.Made.{Told}
 use Rattle.model.specs.Site.{room}
 use Rattle.model.specs.Plan.{Record, threads, calls, first-fault}
 use Rattle.model.specs.Net.{Call, Core, has-node, site-of, lookup, is-open, is-active, node-of, ticket-of, has-child, counts, admissible}
-use Rattle.model.specs.Net.{opened, closed, waker, woken}
+use Rattle.model.specs.Net.{opened, closed, to-wake, woken}
 
 pub data Command : Type 0 where
   -- ticket, node
@@ -93,7 +93,7 @@ opening rs cs parent ticket node =
 
 -- "Then, of the calls waiting at that site with an admissible level, the one that has waited longest becomes active. The answer names it, or 0"
 unfoldable pub serving : List Record → List Call → ℕ → Outcome
-serving rs cs s = record { core = record { plan = rs; calls = woken rs cs s }; answer = ended (ticket-of (waker rs cs s)) }
+serving rs cs s = record { core = record { plan = rs; calls = woken rs cs s }; answer = ended (ticket-of (to-wake rs cs s)) }
 
 -- what an accepted command does
 abbrev pub done : Core → Command → Outcome

@@ -132,8 +132,8 @@ unfoldable pub may-wake : List Record → List Call → ℕ → Call → Bool
 may-wake rs cs s c = waits-on rs s c && admissible rs cs (c .node)
 
 -- "the one that has waited longest"
-unfoldable pub waker : List Record → List Call → ℕ → Option Call
-waker rs cs s = found (may-wake rs cs s) cs
+unfoldable pub to-wake : List Record → List Call → ℕ → Option Call
+to-wake rs cs s = found (may-wake rs cs s) cs
 
 abbrev pub activated : Call → Call
 activated c = record { ticket = c .ticket; parent = c .parent; node = c .node; active = true }

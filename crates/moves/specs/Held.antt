@@ -10,7 +10,7 @@ use Rattle.ids.specs.Limits.{sites, most-threads, most-open}
 use Rattle.lists.specs.Pick.{tell, first-place}
 use Rattle.model.specs.Site.{room}
 use Rattle.model.specs.Plan.{Record, threads}
-use Rattle.model.specs.Net.{Call, has-node, site-of, level-of, has, counts, ticket-of, admissible, opened, closed, waker, woken}
+use Rattle.model.specs.Net.{Call, has-node, site-of, level-of, has, counts, ticket-of, admissible, opened, closed, to-wake, woken}
 use Rattle.model.specs.NetRules.{Book, Firm, Newcomer, Ending}
 
 -- an array holds a number of each open call, in their order, and zeros behind them
@@ -113,4 +113,4 @@ Servable a used site most = (rs : List Record) × (cs : List Call) × CanServe r
 abbrev pub Serves : Arrays → Arrays → ℕ → ℕ → ℕ → ℕ → Type 0
 Serves a b ticket used site most =
     (rs : List Record) (cs : List Call) → CanServe rs cs a used site most
-    → (ticket ≡ ticket-of (waker rs cs site)) × Held rs (woken rs cs site) b used
+    → (ticket ≡ ticket-of (to-wake rs cs site)) × Held rs (woken rs cs site) b used

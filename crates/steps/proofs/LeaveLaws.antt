@@ -10,7 +10,7 @@ use Rattle.ids.specs.Limits.{sites, nodes, most-open}
 use Rattle.lists.specs.Pick.{first-place}
 use Rattle.lists.proofs.PickLaws.{found-in}
 use Rattle.lists.proofs.TellLaws.{place-inside}
-use Rattle.model.specs.Net.{Call, Core, has-node, site-of, level-of, has, lookup, node-of, ticket-of, closed, waker, woken}
+use Rattle.model.specs.Net.{Call, Core, has-node, site-of, level-of, has, lookup, node-of, ticket-of, closed, to-wake, woken}
 use Rattle.model.specs.NetRules.{Ending}
 use Rattle.model.specs.Command.{return, ended, fault, serving, step}
 use Rattle.model.proofs.StepLaws.{accepted-step, return-fits}
@@ -80,7 +80,7 @@ module _ {net : Core} {a : Arrays} {used : ℕ} {most-of places levels edges : L
     can-serve = record { held = closing; site-inside = site-listed; threads-are = node-placed run node known .threads-are }
 
     pub returned : {d : Arrays} {admitted : ℕ}
-        → (admitted ≡ ticket-of (waker (net .plan) (closed (net .calls) ticket) site))
+        → (admitted ≡ ticket-of (to-wake (net .plan) (closed (net .calls) ticket) site))
         × Held (net .plan) (woken (net .plan) (closed (net .calls) ticket) site) d (used - 1)
         → Stepped (step net (return ticket)) d (used - 1) (Number admitted) most-of places levels edges
     unfolding serving
@@ -89,7 +89,7 @@ module _ {net : Core} {a : Arrays} {used : ℕ} {most-of places levels edges : L
         let site-then : site-of (net .plan) (node-of (lookup (net .calls) ticket)) ≡ site =
         ap (λ (o : Option Call). site-of (net .plan) (node-of o)) (ending .stands) ∙ sym site-there
         in
-        runs-after run (return ticket) (woken (net .plan) cs site) (ended (ticket-of (waker (net .plan) cs site)))
+        runs-after run (return ticket) (woken (net .plan) cs site) (ended (ticket-of (to-wake (net .plan) cs site)))
         (accepted-step net (return ticket) none-fails ∙ ap (serving (net .plan) cs) site-then)
         (ap Number (after .0))
         (after .1)
