@@ -10,7 +10,7 @@ use Rattle.ids.specs.Limits.{nodes}
 use Rattle.lists.specs.Pick.{first-place}
 use Rattle.model.specs.Plan.{Record, calls}
 use Rattle.model.specs.Net.{Call, has-node, has}
-use Rattle.model.specs.NetRules.{Firm}
+use Rattle.model.specs.Steady.{Firm}
 use Rattle.model.specs.Command.{start, call, return, fault}
 use Rattle.record.specs.Step.{listed-node}
 use Rattle.moves.specs.Held.{Tells, ticket-number, parent-number, node-number, key-of}

@@ -16,7 +16,7 @@ use Rattle.model.specs.Rule.{Rule, LIVE-P, Blocked, Sound}
 use Rattle.model.specs.Paper.{φ′, In-use}
 use Rattle.model.specs.Plan.{Record, threads, six, passes}
 use Rattle.model.specs.Net.{Call, has-node, site-of, level-of, on, active-on, above, counts, admissible, limit-at}
-use Rattle.model.specs.NetRules.{Lawful}
+use Rattle.model.specs.Steady.{Lawful}
 use Rattle.model.proofs.RuleLaws.{LIVE-P-sound, under-limit, over-limit, admits-below, B}
 use Rattle.model.proofs.PaperLaws.{admit-φ′}
 use Rattle.model.proofs.PlaceLaws.{threads-most, level-below-threads}

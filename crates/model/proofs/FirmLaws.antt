@@ -20,7 +20,8 @@ use Rattle.model.specs.Site.{lawful, raised}
 use Rattle.model.specs.Plan.{Record, threads, calls, six, passes}
 use Rattle.model.specs.Net.{Call, Core, has-node, site-of, level-of, has, lookup, is-child, has-child, on, active-on, waits-on, counts}
 use Rattle.model.specs.Net.{admissible, newcomer, opened, closed, may-wake, to-wake, activated, woken}
-use Rattle.model.specs.NetRules.{Keeps, parent-stands, parent-kept, Lawful, Firm, Newcomer, Ending}
+use Rattle.model.specs.NetRules.{Keeps, parent-stands, parent-kept}
+use Rattle.model.specs.Steady.{Lawful, Firm, Newcomer, Ending}
 use Rattle.model.proofs.SiteLaws.{A-one, lawful-at, lawful-all}
 use Rattle.model.proofs.RuleLaws.{S}
 use Rattle.model.proofs.PlaceLaws.{level-small, level-below-threads}

@@ -22,7 +22,8 @@ use Rattle.model.specs.Net.{Call, Core, site-of, level-of, has, lookup, 
 use Rattle.model.specs.Net.{opened, closed, may-wake, to-wake, activated, woken}
 use Rattle.model.specs.Command.{Command, start, call, return, refused, active, waiting, ended, fault, opening, serving, done, step, run, ask}
 use Rattle.model.specs.Command.{standing, has-room, no-answer, room-at}
-use Rattle.model.specs.NetRules.{Keeps, Ending}
+use Rattle.model.specs.NetRules.{Keeps}
+use Rattle.model.specs.Steady.{Ending}
 use Rattle.model.specs.Same.{Same}
 use Rattle.model.proofs.CountsLaws.{of-level, counts-alike}
 use Rattle.model.proofs.OrderLaws.{to-wake-oldest, order-opened, order-closed, order-woken, order-elsewhere, has-child-counted}

@@ -19,7 +19,8 @@ use Rattle.model.specs.Rule.{Blocked}
 use Rattle.model.specs.Plan.{Record, threads}
 use Rattle.model.specs.Net.{Call, has-node, site-of, level-of, has, on, active-on, waits-on, counts, admissible, newcomer, opened, closed}
 use Rattle.model.specs.Net.{may-wake, to-wake, activated, woken}
-use Rattle.model.specs.NetRules.{could-go, Firm, Newcomer, Ending}
+use Rattle.model.specs.NetRules.{could-go}
+use Rattle.model.specs.Steady.{Firm, Newcomer, Ending}
 use Rattle.model.proofs.SiteLaws.{A-one}
 use Rattle.model.proofs.RuleLaws.{D, M, X}
 use Rattle.model.proofs.PlaceLaws.{level-small}

@@ -17,7 +17,8 @@ use Rattle.model.specs.Plan.{Record, threads, calls, six, passes}
 use Rattle.model.specs.Net.{Call, Core, empty-net, site-of, lookup, is-open, is-active, node-of, has-child, counts, opened, closed, woken}
 use Rattle.model.specs.Command.{Command, start, call, return, refused, active, start-tests, call-tests, return-tests, fault, Outcome, opening}
 use Rattle.model.specs.Command.{serving, done, decided as settled-by, step, run}
-use Rattle.model.specs.NetRules.{Keeps, parent-stands, Firm, Newcomer, Ending}
+use Rattle.model.specs.NetRules.{Keeps, parent-stands}
+use Rattle.model.specs.Steady.{Firm, Newcomer, Ending}
 use Rattle.model.proofs.SiteLaws.{lawful-all}
 use Rattle.model.proofs.TestLaws.{first-fault-is}
 use Rattle.model.proofs.CountsLaws.{A-counts}

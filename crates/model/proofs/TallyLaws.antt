@@ -20,7 +20,8 @@ use Rattle.model.specs.Reading.{PlanOk}
 use Rattle.model.specs.Net.{Call, Core, empty-net, site-of, has, lookup, node-of, ticket-of, on, active-on, admissible, newcomer, opened}
 use Rattle.model.specs.Net.{closed, may-wake, to-wake, activated, woken}
 use Rattle.model.specs.Command.{Command, start, call, return, Answer, refused, active, waiting, fault, Outcome, opening, serving, done, step, run}
-use Rattle.model.specs.NetRules.{Keeps, Ending}
+use Rattle.model.specs.NetRules.{Keeps}
+use Rattle.model.specs.Steady.{Ending}
 use Rattle.model.specs.Tally.{active-calls, admits, returns, command-site, tally, AllAccepted, all-returns}
 use Rattle.model.proofs.FirmLaws.{keeps-firm, closed-firm, to-wake-fits}
 use Rattle.model.proofs.StepLaws.{accepted-step, refused-step, return-fits, step-keeps, empty-keeps, step-plan}

@@ -15,6 +15,7 @@ pub mod LevelSheet
 pub mod Net
 pub mod Command
 pub mod NetRules
+pub mod Steady
 pub mod Text
 pub mod Transcript
 pub mod Tally

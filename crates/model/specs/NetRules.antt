@@ -11,7 +11,7 @@ use Rattle.lists.specs.Count.{every}
 use Rattle.lists.specs.Pick.{count, all}
 use Rattle.model.specs.Site.{lawful}
 use Rattle.model.specs.Plan.{Record, threads, calls, six, passes, first-fault}
-use Rattle.model.specs.Net.{Call, Core, has-node, has, lookup, has-child, counts, admissible}
+use Rattle.model.specs.Net.{Call, Core, has-node, has, lookup, counts, admissible}
 
 -- what a net keeps beside its core, so as not to work it out anew: the active calls of each level, for each site
 abbrev pub Book : Type 0
@@ -59,36 +59,6 @@ own-book net s = counts (net .plan) (net .calls) s
 -- a net that keeps the rules
 abbrev pub Keeps : Core → Type 0
 Keeps net = NetRules net (own-book net)
-
--- What the commands' proofs go by
-
--- each site is lawful
-abbrev pub Lawful : List Record → List Call → Type 0
-Lawful rs cs = (s : ℕ) → lawful (threads rs s) (counts rs cs s) ≡ true
-
--- every rule but the one on waiting calls: each single change of the open calls keeps them
-pub record Firm (rs : List Record) (cs : List Call) : Type 0 where
-  pub pass : passes six rs ≡ true
-  pub differ : (t : ℕ) → count (has t) cs ≤ 1
-  pub none-0 : count (has no-ticket) cs ≡ 0
-  pub known : (c : Call) → List·Memᴰ c cs → has-node rs (c .node) ≡ true
-  pub kept : (c : Call) → List·Memᴰ c cs → parent-kept rs cs c ≡ true
-  pub law : Lawful rs cs
-  pub few : length cs ≤ most-open
-
--- what the tests of a start or a call leave of the newcomer
-pub record Newcomer (rs : List Record) (cs : List Call) (parent ticket node : ℕ) : Type 0 where
-  pub some-ticket : ticket ≡ no-ticket → ⊥
-  pub new-ticket : lookup cs ticket ≡ none
-  pub listed-node : has-node rs node ≡ true
-  pub room-left : length cs < most-open
-  pub parent-fits : (eqb parent no-ticket || parent-stands rs (lookup cs parent) node) ≡ true
-
--- what the tests of a return leave of the call that ends
-pub record Ending (cs : List Call) (ticket : ℕ) (c : Call) : Type 0 where
-  pub stands : lookup cs ticket ≡ some c
-  pub runs : c .active ≡ true
-  pub childless : has-child cs ticket ≡ false
 
 -- Which rule is broken: their tests, each with its place in 01's sentence, where the waiting orders stand at 8; a table that is too long is 9, and
 -- comes first, since nothing is read of it

@@ -15,7 +15,7 @@ use Rattle.lists.proofs.TellLaws.{first-same, first-passes}
 use Rattle.model.specs.Site.{limit, full}
 use Rattle.model.specs.Plan.{Record, threads}
 use Rattle.model.specs.Net.{Call, site-of, level-of, on, waits-on, counts, admissible, limit-at, may-wake}
-use Rattle.model.specs.NetRules.{Firm}
+use Rattle.model.specs.Steady.{Firm}
 use Rattle.model.proofs.AdmitLaws.{admissible-limit}
 use Rattle.model.proofs.PlaceLaws.{level-small, threads-most}
 use Rattle.table.specs.Places.{between}

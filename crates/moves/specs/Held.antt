@@ -11,7 +11,8 @@ use Rattle.lists.specs.Pick.{tell, first-place}
 use Rattle.model.specs.Site.{room}
 use Rattle.model.specs.Plan.{Record, threads}
 use Rattle.model.specs.Net.{Call, has-node, site-of, level-of, has, counts, ticket-of, admissible, opened, closed, to-wake, woken}
-use Rattle.model.specs.NetRules.{Book, Firm, Newcomer, Ending}
+use Rattle.model.specs.NetRules.{Book}
+use Rattle.model.specs.Steady.{Firm, Newcomer, Ending}
 
 -- an array holds a number of each open call, in their order, and zeros behind them
 pub record Tells (number : Call → ℕ) (cs : List Call) (numbers : List ℕ) : Type 0 where

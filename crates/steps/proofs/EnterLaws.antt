@@ -7,7 +7,7 @@ use mathlib.Core.List.{List}
 use lib.ListN.{getD}
 use Rattle.ids.specs.Limits.{sites, nodes, most-open, no-ticket}
 use Rattle.model.specs.Net.{Core, has-node, site-of, admissible, opened}
-use Rattle.model.specs.NetRules.{Newcomer}
+use Rattle.model.specs.Steady.{Newcomer}
 use Rattle.model.specs.Command.{start, call, active, waiting, fault, opening, done, step}
 use Rattle.model.proofs.StepLaws.{accepted-step, start-fits, call-fits}
 use Rattle.model.proofs.PlaceLaws.{site-small}

@@ -11,7 +11,7 @@ use Rattle.lists.specs.Pick.{first-place}
 use Rattle.lists.proofs.PickLaws.{found-in}
 use Rattle.lists.proofs.TellLaws.{place-inside}
 use Rattle.model.specs.Net.{Call, Core, has-node, site-of, level-of, has, lookup, node-of, ticket-of, closed, to-wake, woken}
-use Rattle.model.specs.NetRules.{Ending}
+use Rattle.model.specs.Steady.{Ending}
 use Rattle.model.specs.Command.{return, ended, fault, serving, step}
 use Rattle.model.proofs.StepLaws.{accepted-step, return-fits}
 use Rattle.moves.specs.Held.{Arrays, Held, CanClose, CanServe}
