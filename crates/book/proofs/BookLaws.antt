@@ -9,7 +9,7 @@ use mathlib.Core.List.{List, [], _∷_}
 use lib.Dec.{ltb, eqb}
 use lib.ListN.{length}
 use Rattle.ids.specs.Limits.{most-threads}
-use Rattle.model.specs.Site.{A, refused, limit, may-admit, room}
+use Rattle.model.specs.Site.{A, refuses-site, limit, may-admit, room}
 use Rattle.model.specs.Tree.{from-root}
 use Rattle.model.specs.Answers.{site-refusal, level-refusal, level-answer, admission-answer, room-answer, firmware}
 use Rattle.model.specs.declared.Walked.{Walked}
@@ -31,9 +31,9 @@ picked-ended false v w e = (refl, cc)
 module _ (T : ℕ) (a : List ℕ) where
   -- the walk was refused
   module _ (e : Descent.Refused ≡ descent T a) where
-    site-refused : refused T a ≡ true
+    site-refused : refuses-site T a ≡ true
     unfolding descent
-    site-refused = picked-refused (refused T a) (from-root T a) e
+    site-refused = picked-refused (refuses-site T a) (from-root T a) e
 
     pub level-refused : site-refusal ≡ level-answer T a
     unfolding level-answer
@@ -53,9 +53,9 @@ module _ (T : ℕ) (a : List ℕ) where
 
   -- the walk ended
   module _ (w : Walked) (e : Descent.Ended w ≡ descent T a) where
-    told : (refused T a ≡ false) × (w ≡ from-root T a)
+    told : (refuses-site T a ≡ false) × (w ≡ from-root T a)
     unfolding descent
-    told = picked-ended (refused T a) w (from-root T a) e
+    told = picked-ended (refuses-site T a) w (from-root T a) e
 
     pub site : Accepted T a
     site = accepted T a (told .0)

@@ -9,9 +9,9 @@ use borrow.Author.Tests.{eqb-true}
 use Rattle.lists.proofs.CountLaws.{never-both, and-left, and-right}
 use Rattle.ids.specs.Made.{Told}
 use Rattle.lists.specs.Count.{first}
-use Rattle.model.specs.Site.{A, lawful, raised, may-admit, full, limit, refused}
+use Rattle.model.specs.Site.{A, lawful, raised, may-admit, full, limit, refuses-site}
 use Rattle.model.specs.Answers.{firmware, admission-answer}
-use Rattle.model.specs.LevelSheet.{Case, site, call, plan, counts, Holds, table}
+use Rattle.model.specs.LevelSheet.{Case, site, call, plan, counts-of, Holds, table}
 use Rattle.model.specs.House.{next}
 use Rattle.model.specs.Plan.{threads, place, calls, edges, follows, in-range, known, level-below}
 use Rattle.model.specs.Plan.{room-for, record-fault, site-steps, listed, closed-backwards, loops, self-depends, end-fault, bytes-of}
@@ -33,8 +33,8 @@ told-exactly (a ∷ b ∷ []) n p e =
 told-exactly (a ∷ b ∷ c ∷ r) n p e = absurd (never-both e refl)
 
 test : Case → Bool
-test (site threads active number) = eqb (firmware threads (counts active)) number
-test (call threads active asked admitted) = told-is (admission-answer threads (counts active) asked) 0 admitted
+test (site threads active number) = eqb (firmware threads (counts-of active)) number
+test (call threads active asked admitted) = told-is (admission-answer threads (counts-of active) asked) 0 admitted
 test (plan bytes number place) = told-is (reading-told (read bytes)) number place
 
 tests : List Case → Bool
@@ -48,8 +48,8 @@ All (c ∷ cs) = Holds c × All cs
 
 passes : (c : Case) → test c ≡ true → Holds c
 unfolding test
-passes (site threads active number) e = eqb-true (firmware threads (counts active)) number e
-passes (call threads active asked admitted) e = told-exactly (admission-answer threads (counts active) asked) 0 admitted e
+passes (site threads active number) e = eqb-true (firmware threads (counts-of active)) number e
+passes (call threads active asked admitted) e = told-exactly (admission-answer threads (counts-of active) asked) 0 admitted e
 passes (plan bytes number place) e = told-exactly (reading-told (read bytes)) number place e
 
 all-pass : (cs : List Case) → tests cs ≡ true → All cs
@@ -58,7 +58,7 @@ all-pass [] e = tt
 all-pass (c ∷ cs) e = (passes c (and-left (test c) (tests cs) e), all-pass cs (and-right (test c) (tests cs) e))
 
 computed : tests table ≡ true
-unfolding first tests test told-is firmware admission-answer may-admit refused limit lawful full A raised read read-on next
+unfolding first tests test told-is firmware admission-answer may-admit refuses-site limit lawful full A raised read read-on next
     threads place calls edges follows in-range known level-below room-for record-fault site-steps listed
     closed-backwards loops self-depends end-fault bytes-of
 computed = refl

@@ -11,7 +11,7 @@ use lib.ListN.{length, length-append}
 use lib.Dec.{eqb}
 use Rattle.model.specs.House.{Next, lacking, unknown, cut, whole, next}
 use Rattle.model.specs.Plan.{Record, Levels, record-fault, passes, plan-kinds, bytes-of, records-bytes, encode}
-use Rattle.model.specs.Reading.{accepted, refused, Ends, unchecked, decoded, finish, keep, take-in, turn, read-on, read-with, end-checked}
+use Rattle.model.specs.Reading.{accepted, refused-at, Ends, unchecked, decoded, finish, keep, take-in, reading-by, read-on, read-with, end-checked}
 use Rattle.model.specs.Faults.{fault-at}
 use Rattle.model.proofs.FaultLaws.{next-end}
 use Rattle.model.proofs.TurnLaws.{stops-at, accepts, read-through, Ended, each-ends}
@@ -84,10 +84,10 @@ module _ (levels : Levels) (ends : Ends) where
           rw (g .split, encode-rest rs (g .rest), read-behind rs (4 ∷ g .rest) (g .passing), g .used-is, encode-length rs)
           (accepts levels ends (length (4 ∷ g .rest)) rs (length (records-bytes rs)) (g .rest) (g .no-fault))
 
-  pub read-refuses : (bytes : List ℕ) (n at : ℕ) → (read-with levels ends bytes ≡ refused n at) ↔ Refusing levels ends bytes n at
+  pub read-refuses : (bytes : List ℕ) (n at : ℕ) → (read-with levels ends bytes ≡ refused-at n at) ↔ Refusing levels ends bytes n at
   read-refuses bytes n at = (from, into)
     where
-      from : read-with levels ends bytes ≡ refused n at → Refusing levels ends bytes n at
+      from : read-with levels ends bytes ≡ refused-at n at → Refusing levels ends bytes n at
       from e =
           let w = read-ends bytes in
           ⊎-elim
@@ -105,7 +105,7 @@ module _ (levels : Levels) (ends : Ends) where
           })
           (w .verdict)
 
-      into : Refusing levels ends bytes n at → read-with levels ends bytes ≡ refused n at
+      into : Refusing levels ends bytes n at → read-with levels ends bytes ≡ refused-at n at
       into g =
           rw (g .split, read-behind (g .records) (g .tail) (g .passing), g .at-is, ← (g .fault))
           (stops-at levels ends (length (g .tail)) (g .records) (length (records-bytes (g .records))) (g .tail)
@@ -143,8 +143,8 @@ module _ (levels : Levels) (ends : Ends) where
       at-decoded (some r) rest same = kept (eqb (record-fault levels rs r) 0) r rest same
 
       at-next : (n : Next) → Later turns
-          → turn levels ends (λ qs to rest. read-on levels ends turns qs to rest) rs at n
-          ≡ end-checked ends (turn levels unchecked (λ qs to rest. read-on levels unchecked turns qs to rest) rs at n)
+          → reading-by levels ends (λ qs to rest. read-on levels ends turns qs to rest) rs at n
+          ≡ end-checked ends (reading-by levels unchecked (λ qs to rest. read-on levels unchecked turns qs to rest) rs at n)
       at-next lacking same = refl
       at-next unknown same = refl
       at-next cut same = refl

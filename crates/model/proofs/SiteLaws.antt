@@ -13,7 +13,7 @@ use borrow.Author.Tests.{leb-true, le-leb, lt-leb, ltb-false, le-ltb, eqb-true, 
 use Rattle.lists.proofs.CountLaws.{every-at, every-all, lt-or-ge, or-left, or-right, not-false-true}
 use Rattle.lists.proofs.CountLaws.{sum-drop-step, sum-drop-end, sum-drop-raised, sum-drop-kept}
 use Rattle.lists.specs.Count.{one}
-use Rattle.model.specs.Site.{A, lawful, raised, full, refused}
+use Rattle.model.specs.Site.{A, lawful, raised, full, refuses-site}
 use Rattle.ids.specs.Limits.{most-threads}
 
 -- The laws of A
@@ -85,8 +85,8 @@ pub record Accepted (T : ℕ) (a : List ℕ) : Type 0 where
   pub within : A a T ≡ 0
   pub law : lawful T a ≡ true
 
-pub accepted : (T : ℕ) (a : List ℕ) → refused T a ≡ false → Accepted T a
-unfolding refused
+pub accepted : (T : ℕ) (a : List ℕ) → refuses-site T a ≡ false → Accepted T a
+unfolding refuses-site
 accepted T a e =
     let none = eqb T 0 in
     let many = ltb most-threads T in
@@ -104,8 +104,8 @@ accepted T a e =
       law = not-false-true (lawful T a) (or-right (none || many || short || over) (not (lawful T a)) e);
     }
 
-pub not-refused : (T : ℕ) (a : List ℕ) → Accepted T a → refused T a ≡ false
-unfolding refused
+pub not-refused : (T : ℕ) (a : List ℕ) → Accepted T a → refuses-site T a ≡ false
+unfolding refuses-site
 not-refused T a ok =
     simp (
       ne-eqb T 0 (λ e. omega (arith, ok .some)),

@@ -20,9 +20,9 @@ reads-more before [] d = refl
 reads-more before (e ∷ ds) d = reads-more (10 * before + (e - 48)) ds d
 
 -- one turn of the division: a last digit, behind the digits of the tenth
-turn : (places n : ℕ) → (10 ≤ n → reads-on 0 (decimal-in places (n / 10)) ≡ n / 10) → reads-on 0 (decimal-in (suc places) n) ≡ n
+reads-turn : (places n : ℕ) → (10 ≤ n → reads-on 0 (decimal-in places (n / 10)) ≡ n / 10) → reads-on 0 (decimal-in (suc places) n) ≡ n
 unfolding decimal-in reads-on
-turn places n tenth = ⊎-elim small large (lt-or-ge n 10)
+reads-turn places n tenth = ⊎-elim small large (lt-or-ge n 10)
   where
     small : n < 10 → reads-on 0 (cond (ltb n 10) (digit n ∷ []) (decimal-in places (n / 10) ++ (digit (n % 10) ∷ []))) ≡ n
     small h = rw (lt-ltb n 10 h) (omega arith)
@@ -31,8 +31,8 @@ turn places n tenth = ⊎-elim small large (lt-or-ge n 10)
     large h = rw (le-ltb n 10 h) (omega (arith, reads-more 0 (decimal-in places (n / 10)) (digit (n % 10)), tenth h))
 
 reads-in : (places n : ℕ) → n < 10 ^ suc places → reads-on 0 (decimal-in (suc places) n) ≡ n
-reads-in zero n h = turn 0 n (λ p. absurd (omega arith))
-reads-in (suc places) n h = turn (suc places) n (λ p. reads-in places (n / 10) (omega (arith, pow-suc 10 (suc places))))
+reads-in zero n h = reads-turn 0 n (λ p. absurd (omega arith))
+reads-in (suc places) n h = reads-turn (suc places) n (λ p. reads-in places (n / 10) (omega (arith, pow-suc 10 (suc places))))
 
 -- the digits of a number read back as the number
 pub decimal-reads : (n : ℕ) → n < 10 ^ most-digits → reads-on 0 (decimal n) ≡ n

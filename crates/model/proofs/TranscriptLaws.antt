@@ -12,7 +12,7 @@ use Rattle.model.specs.Net.{Core, empty-net}
 use Rattle.model.specs.NetRules.{Keeps}
 use Rattle.model.specs.Command.{Command, step, run}
 use Rattle.model.specs.Text.{Text}
-use Rattle.model.specs.Transcript.{Request, command, question, room-question, command-kinds, request, line, after, turn, lines}
+use Rattle.model.specs.Transcript.{Request, command, question, room-question, command-kinds, request, line, after, lines-by, lines}
 use Rattle.model.specs.Demands.{Safe}
 use Rattle.model.proofs.HouseLaws.{whole-length}
 use Rattle.model.proofs.StepLaws.{run-keeps, empty-keeps}
@@ -27,7 +27,7 @@ lines-enough (suc turns) net at commands bytes h = go (next command-kinds bytes)
   where
     go : (n : Next) → next command-kinds bytes ≡ n
         → ((m : Core) (a c : ℕ) (bs : List ℕ) → length bs < turns → lines turns m a c bs ≡ lines (suc turns) m a c bs)
-        → turn (lines turns) net at commands n ≡ turn (lines (suc turns)) net at commands n
+        → lines-by (lines turns) net at commands n ≡ lines-by (lines (suc turns)) net at commands n
     go lacking e rest = refl
     go unknown e rest = refl
     go cut e rest = refl

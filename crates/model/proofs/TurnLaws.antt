@@ -14,7 +14,7 @@ use borrow.Author.Tests.{eqb-true, eqb-false, eq-eqb, ne-eqb}
 use Rattle.lists.proofs.CountLaws.{decided, and-left, and-right, and-both}
 use Rattle.model.specs.House.{Next, lacking, unknown, cut, whole, next}
 use Rattle.model.specs.Plan.{Record, site, node, edge, Levels, record-fault, passes, plan-kinds, bytes-of, records-bytes}
-use Rattle.model.specs.Reading.{Reading, accepted, refused, Ends, decoded, take-in, turn, read-on}
+use Rattle.model.specs.Reading.{Reading, accepted, refused-at, Ends, decoded, take-in, reading-by, read-on}
 use Rattle.model.specs.Faults.{fault-decoded, fault-next, fault-at, Fault, no-kind, strange-kind, short-body, of-record, of-plan}
 use Rattle.model.proofs.FaultLaws.{next-record, next-end, fault-is}
 
@@ -42,19 +42,19 @@ module _ (levels : Levels) (ends : Ends) where
 
   -- a fault stops it
   stop-of : (go : List Record → ℕ → Reading) (rs : List Record) (at : ℕ) (o : Option Record)
-      → (fault-decoded levels ends rs o ≡ 0 → ⊥) → take-in levels ends go rs at o ≡ refused (fault-decoded levels ends rs o) at
+      → (fault-decoded levels ends rs o ≡ 0 → ⊥) → take-in levels ends go rs at o ≡ refused-at (fault-decoded levels ends rs o) at
   stop-of go rs at none h = rw (ne-eqb (ends rs) 0 h)
   stop-of go rs at (some r) h = rw (ne-eqb (record-fault levels rs r) 0 h)
 
   stop-in : (go : List Record → ℕ → List ℕ → Reading) (rs : List Record) (at : ℕ) (next : Next)
-      → (fault-next levels ends rs next ≡ 0 → ⊥) → turn levels ends go rs at next ≡ refused (fault-next levels ends rs next) at
+      → (fault-next levels ends rs next ≡ 0 → ⊥) → reading-by levels ends go rs at next ≡ refused-at (fault-next levels ends rs next) at
   stop-in go rs at lacking h = refl
   stop-in go rs at unknown h = refl
   stop-in go rs at cut h = refl
   stop-in go rs at (whole kind body rest) h = stop-of (λ qs to. go qs to rest) rs at (decoded kind body) h
 
   pub stops-at : (turns : ℕ) (rs : List Record) (at : ℕ) (tail : List ℕ)
-      → (fault-at levels ends rs tail ≡ 0 → ⊥) → read-on levels ends (suc turns) rs at tail ≡ refused (fault-at levels ends rs tail) at
+      → (fault-at levels ends rs tail ≡ 0 → ⊥) → read-on levels ends (suc turns) rs at tail ≡ refused-at (fault-at levels ends rs tail) at
   unfolding read-on fault-at
   stops-at turns rs at tail h = stop-in (λ qs to rest. read-on levels ends turns qs to rest) rs at (next plan-kinds tail) h
 
@@ -135,7 +135,7 @@ module _ (levels : Levels) (ends : Ends) where
     pub passing : passes levels records ≡ true
     pub verdict :
         ((rest : List ℕ) × (tail ≡ 4 ∷ rest) × (ends records ≡ 0) × (answer ≡ accepted records (length (records-bytes records) + 1)))
-        ⊎ ((fault-at levels ends records tail ≡ 0 → ⊥) × (answer ≡ refused (fault-at levels ends records tail) (length (records-bytes records))))
+        ⊎ ((fault-at levels ends records tail ≡ 0 → ⊥) × (answer ≡ refused-at (fault-at levels ends records tail) (length (records-bytes records))))
 
   pub each-ends : (turns : ℕ) (rs : List Record) (at : ℕ) (tail : List ℕ)
       → length tail < turns → at ≡ length (records-bytes rs) → passes levels rs ≡ true
@@ -155,7 +155,7 @@ module _ (levels : Levels) (ends : Ends) where
             tail = tail;
             split = refl;
             passing = p;
-            verdict = inr (f, stops-at turns rs at tail f ∙ ap (refused (fault-at levels ends rs tail)) a);
+            verdict = inr (f, stops-at turns rs at tail f ∙ ap (refused-at (fault-at levels ends rs tail)) a);
           }
       go (sound r rest e f) ih =
           let less = shorter r rest tail e in

@@ -5,7 +5,7 @@ use mathlib.Core.Bool.{_||_, cond}
 use mathlib.Core.List.{List, [], _∷_}
 use lib.Dec.{leb}
 use Rattle.ids.specs.Made.{Told}
-use Rattle.model.specs.Site.{refused, limit, may-admit, room}
+use Rattle.model.specs.Site.{refuses-site, limit, may-admit, room}
 use Rattle.model.specs.Tree.{from-root}
 use Rattle.model.specs.declared.LevelAnswer.{LevelAnswer}
 use Rattle.model.specs.declared.AdmissionAnswer.{AdmissionAnswer}
@@ -38,16 +38,16 @@ toldRoom RoomAnswer.Refused = site-refusal
 
 -- the highest admissible level, by its definition, and the tree nodes that the walk stood on
 unfoldable pub level-answer : ℕ → List ℕ → Told
-level-answer T a = cond (refused T a) site-refusal (0 ∷ limit T a ∷ from-root T a .stood ∷ [])
+level-answer T a = cond (refuses-site T a) site-refusal (0 ∷ limit T a ∷ from-root T a .stood ∷ [])
 
 -- "for admission also when i is not below T"
 unfoldable pub admission-answer : ℕ → List ℕ → ℕ → Told
-admission-answer T a i = cond (refused T a || leb T i) site-refusal (0 ∷ cond (may-admit T a i) 1 0 ∷ [])
+admission-answer T a i = cond (refuses-site T a || leb T i) site-refusal (0 ∷ cond (may-admit T a i) 1 0 ∷ [])
 
 -- the site is looked at first
 unfoldable pub room-answer : ℕ → List ℕ → ℕ → Told
-room-answer T a k = cond (refused T a) site-refusal (cond (leb T k) level-refusal (0 ∷ room T a k ∷ []))
+room-answer T a k = cond (refuses-site T a) site-refusal (cond (leb T k) level-refusal (0 ∷ room T a k ∷ []))
 
 -- "It gets the level plus 1, 0 for none, or 255 as a refusal"
 unfoldable pub firmware : ℕ → List ℕ → ℕ
-firmware T a = cond (refused T a) 255 (limit T a)
+firmware T a = cond (refuses-site T a) 255 (limit T a)

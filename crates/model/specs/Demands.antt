@@ -11,7 +11,7 @@ use Rattle.ids.specs.Limits.{no-ticket}
 use Rattle.lists.specs.Pick.{count, found}
 use Rattle.model.specs.Site.{may-admit}
 use Rattle.model.specs.Plan.{Record, threads, encode}
-use Rattle.model.specs.Reading.{accepted, refused as not-read, read, PlanOk}
+use Rattle.model.specs.Reading.{accepted, refused-at, read, PlanOk}
 use Rattle.model.specs.PlanValue.{empty-plan, reading-plan}
 use Rattle.model.specs.Net.{Call, Core, empty-net, site-of, level-of, lookup, ticket-of, has-child, above, counts, waiting-order, admissible}
 use Rattle.model.specs.Net.{newcomer, closed, woken}
@@ -25,7 +25,7 @@ use Rattle.model.specs.Tally.{AllAccepted, all-returns}
 
 pub record Demand-1 : Type 0 where
   -- "A refused plan gives back the empty plan"
-  pub refused-plan : (bytes : List ℕ) (number offset : ℕ) → read bytes ≡ not-read number offset → reading-plan (read bytes) ≡ empty-plan
+  pub refused-plan : (bytes : List ℕ) (number offset : ℕ) → read bytes ≡ refused-at number offset → reading-plan (read bytes) ≡ empty-plan
   -- "a refused command changes nothing and gives the number from the table"
   pub refused-command : (net : Core) (command : Command) → (fault net command ≡ 0 → ⊥)
       → (step net command .core ≡ net) × (step net command .answer ≡ refused (fault net command)) × List·Memᴰ (fault net command) (order command)

@@ -19,13 +19,13 @@ pub data Case : Type 0 where
   plan : List ℕ → ℕ → ℕ → Case
 
 -- the count of each level where these calls are active
-abbrev pub counts : List ℕ → List ℕ
-counts active = put (replicate most-threads 0) active
+abbrev pub counts-of : List ℕ → List ℕ
+counts-of active = put (replicate most-threads 0) active
 
 -- what a line says of the definitions
 abbrev pub Holds : Case → Type 0
-Holds (site threads active number) = firmware threads (counts active) ≡ number
-Holds (call threads active asked admitted) = admission-answer threads (counts active) asked ≡ 0 ∷ admitted ∷ []
+Holds (site threads active number) = firmware threads (counts-of active) ≡ number
+Holds (call threads active asked admitted) = admission-answer threads (counts-of active) asked ≡ 0 ∷ admitted ∷ []
 Holds (plan bytes number place) = reading-told (read bytes) ≡ number ∷ place ∷ []
 
 -- two sites of 2 threads; nodes 0 at site 0, 1 and 2 at site 1, 3 at site 0; edges 0 to 1 and 2 to 3; all levels 0 but that of node 2

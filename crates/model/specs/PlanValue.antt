@@ -9,7 +9,7 @@ use lib.Dec.{eqb}
 use Rattle.ids.specs.Limits.{sites, nodes, most-edges}
 use Rattle.ids.specs.Made.{Told}
 use Rattle.model.specs.Plan.{Record, site, node, edge, Place, push}
-use Rattle.model.specs.Reading.{Reading, accepted, refused}
+use Rattle.model.specs.Reading.{Reading, accepted, refused-at}
 use Rattle.model.specs.declared.Plan.{Plan}
 use Rattle.model.specs.declared.PlanRefusal.{PlanRefusal}
 use Rattle.model.specs.declared.ReadAnswer.{ReadAnswer}
@@ -79,11 +79,11 @@ toldRead (ReadAnswer.Refused why offset) = refusal-number why ∷ offset ∷ []
 -- what a reading tells, and the plan that it hands back: "a refused plan gives back the empty plan"
 abbrev pub reading-told : Reading → Told
 reading-told (accepted rs used) = 0 ∷ used ∷ []
-reading-told (refused number offset) = number ∷ offset ∷ []
+reading-told (refused-at number offset) = number ∷ offset ∷ []
 
 abbrev pub reading-plan : Reading → Plan
 reading-plan (accepted rs used) = value rs
-reading-plan (refused number offset) = empty-plan
+reading-plan (refused-at number offset) = empty-plan
 
 -- The records that a plan's value holds, whoever made it: its sites, nodes and edges in the order of their numbers, the latest first. A site has a
 -- record where its threads are not 0, and a node where its place is not nowhere

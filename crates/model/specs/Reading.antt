@@ -15,7 +15,7 @@ pub data Reading : Type 0 where
   -- the plan's records and the bytes used
   accepted : List Record → ℕ → Reading
   -- the refusal's number and the offset
-  refused : ℕ → ℕ → Reading
+  refused-at : ℕ → ℕ → Reading
 
 -- a record's kind and body, or none for the end record
 abbrev pub decoded : ℕ → List ℕ → Option Record
@@ -35,29 +35,29 @@ unchecked rs = 0
 -- at the end record, with the number of its checks and its offset
 abbrev pub finish : Bool → ℕ → List Record → ℕ → Reading
 finish true number rs at = accepted rs (at + 1)
-finish false number rs at = refused number at
+finish false number rs at = refused-at number at
 
 -- after a record's checks: go on behind it, or stop with its number
 abbrev pub keep : Bool → Levels → (List Record → ℕ → Reading) → List Record → ℕ → Record → Reading
 keep true levels go rs at r = go (r ∷ rs) (at + length (bytes-of r))
-keep false levels go rs at r = refused (record-fault levels rs r) at
+keep false levels go rs at r = refused-at (record-fault levels rs r) at
 
 abbrev pub take-in : Levels → Ends → (List Record → ℕ → Reading) → List Record → ℕ → Option Record → Reading
 take-in levels ends go rs at none = finish (eqb (ends rs) 0) (ends rs) rs at
 take-in levels ends go rs at (some r) = keep (eqb (record-fault levels rs r) 0) levels go rs at r
 
--- "A record that can't be read ends the reading there"
-abbrev pub turn : Levels → Ends → (List Record → ℕ → List ℕ → Reading) → List Record → ℕ → Next → Reading
-turn levels ends go rs at lacking = refused 1 at
-turn levels ends go rs at unknown = refused 2 at
-turn levels ends go rs at cut = refused 1 at
-turn levels ends go rs at (whole kind body rest) = take-in levels ends (λ qs to. go qs to rest) rs at (decoded kind body)
+-- the reading, by what stands next; "A record that can't be read ends the reading there"
+abbrev pub reading-by : Levels → Ends → (List Record → ℕ → List ℕ → Reading) → List Record → ℕ → Next → Reading
+reading-by levels ends go rs at lacking = refused-at 1 at
+reading-by levels ends go rs at unknown = refused-at 2 at
+reading-by levels ends go rs at cut = refused-at 1 at
+reading-by levels ends go rs at (whole kind body rest) = take-in levels ends (λ qs to. go qs to rest) rs at (decoded kind body)
 
 -- the reading behind the records rs, at an offset; each turn uses a byte at least, so that as many turns as bytes and one more are enough
 unfoldable pub read-on : Levels → Ends → ℕ → List Record → ℕ → List ℕ → Reading
-read-on levels ends zero rs at bytes = refused 1 at
+read-on levels ends zero rs at bytes = refused-at 1 at
 read-on levels ends (suc turns) rs at bytes =
-    turn levels ends (λ qs to rest. read-on levels ends turns qs to rest) rs at (next plan-kinds bytes)
+    reading-by levels ends (λ qs to rest. read-on levels ends turns qs to rest) rs at (next plan-kinds bytes)
 
 abbrev pub read-with : Levels → Ends → List ℕ → Reading
 read-with levels ends bytes = read-on levels ends (suc (length bytes)) [] 0 bytes
@@ -73,7 +73,7 @@ scanned bytes = read-with six unchecked bytes
 -- the checks at the end record of a reading that came so far
 abbrev pub end-checked : Ends → Reading → Reading
 end-checked ends (accepted rs used) = finish (eqb (ends rs) 0) (ends rs) rs (used - 1)
-end-checked ends (refused number at) = refused number at
+end-checked ends (refused-at number at) = refused-at number at
 
 -- a plan that is to be accepted: its records pass the file's checks, the call edges have no loop, and no node depends on itself
 pub record PlanOk (rs : List Record) : Type 0 where

@@ -43,8 +43,8 @@ unfoldable pub room : ℕ → List ℕ → ℕ → ℕ
 room T a k = T - k - A a k
 
 -- "threads 0 or above 64, length not 64, a count above zero at a level at or above T, or a site that is not lawful"
-unfoldable pub refused : ℕ → List ℕ → Bool
-refused T a =
+unfoldable pub refuses-site : ℕ → List ℕ → Bool
+refuses-site T a =
     eqb T 0
     || ltb most-threads T
     || not (eqb (length a) most-threads)

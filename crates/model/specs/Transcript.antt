@@ -7,7 +7,7 @@ use lib.ListN.{length, getD, drop}
 use lib.Dec.{eqb}
 use Rattle.model.specs.House.{Kinds, Next, lacking, unknown, cut, whole, next}
 use Rattle.model.specs.Plan.{sites-of, listed, edges}
-use Rattle.model.specs.Reading.{Reading, accepted, refused, read}
+use Rattle.model.specs.Reading.{Reading, accepted, refused-at, read}
 use Rattle.model.specs.Net.{Core, empty-net}
 use Rattle.model.specs.Command.{Command, start, call, return, step, ask, room-at}
 use Rattle.model.specs.Text.{Text, newline, answer-text, standing-text, room-text, command-text, ask-text, room-asked-text, plan-line}
@@ -53,22 +53,22 @@ after net (command c) = step net c .core
 after net (question ticket) = net
 after net (room-question s k) = net
 
--- the lines from a place of the input on, behind so many commands; "A refused command does not stop the run"
-abbrev pub turn : (Core → ℕ → ℕ → List ℕ → Text) → Core → ℕ → ℕ → Next → Text
-turn go net at commands lacking = done-line commands
-turn go net at commands unknown = bad-line 2 at
-turn go net at commands cut = bad-line 1 at
-turn go net at commands (whole kind body rest) =
+-- the lines from a place of the input on, behind so many commands, by what stands there; "A refused command does not stop the run"
+abbrev pub lines-by : (Core → ℕ → ℕ → List ℕ → Text) → Core → ℕ → ℕ → Next → Text
+lines-by go net at commands lacking = done-line commands
+lines-by go net at commands unknown = bad-line 2 at
+lines-by go net at commands cut = bad-line 1 at
+lines-by go net at commands (whole kind body rest) =
     line net (request kind body) ++ go (after net (request kind body)) (at + suc (length body)) (suc commands) rest
 
 -- each turn uses a byte at least, so that as many turns as bytes and one more are enough
 unfoldable pub lines : ℕ → Core → ℕ → ℕ → List ℕ → Text
 lines zero net at commands bytes = []
-lines (suc turns) net at commands bytes = turn (lines turns) net at commands (next command-kinds bytes)
+lines (suc turns) net at commands bytes = lines-by (lines turns) net at commands (next command-kinds bytes)
 
 -- "or `plan R`, refusal, offset, and nothing more"
 abbrev pub behind-plan : List ℕ → Reading → Text
-behind-plan input (refused number offset) = plan-refused-line number offset
+behind-plan input (refused-at number offset) = plan-refused-line number offset
 behind-plan input (accepted rs used) =
     plan-line (length (sites-of rs)) (length (listed rs)) (edges rs) used ++ lines (suc (length input)) (empty-net rs) used 0 (drop used input)
 

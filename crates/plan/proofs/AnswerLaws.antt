@@ -7,7 +7,7 @@ use mathlib.Core.List.{List, [], _∷_}
 use lib.Dec.{eqb}
 use borrow.Author.Tests.{eq-eqb, ne-eqb}
 use Rattle.model.specs.Plan.{Record, six, end-fault}
-use Rattle.model.specs.Reading.{Reading, accepted, refused, finish, unchecked, end-checked, read, scanned}
+use Rattle.model.specs.Reading.{Reading, accepted, refused-at, finish, unchecked, end-checked, read, scanned}
 use Rattle.model.specs.Records.{RecordsOk}
 use Rattle.model.specs.PlanValue.{value, records-of, empty-plan, refusal-number, toldRead, reading-told, reading-plan}
 use Rattle.model.specs.declared.Plan.{Plan}
@@ -23,7 +23,7 @@ use Rattle.record.proofs.WholeLaws.{whole-is}
 use Rattle.plan.specs.Answers.{Answers, refused-read, accepted-read}
 
 pub refused-answers : {r : PlanRead} {back : Plan} {reading : Reading} (why : PlanRefusal) (at : ℕ)
-    → r ≡ refused-read why at back → back ≡ empty-plan → reading ≡ refused (refusal-number why) at → Answers r reading
+    → r ≡ refused-read why at back → back ≡ empty-plan → reading ≡ refused-at (refusal-number why) at → Answers r reading
 refused-answers why at e none f =
     record {
       answer-is = ap (λ (x : PlanRead). toldRead (x .answer)) e ∙ sym (ap reading-told f);
@@ -54,7 +54,7 @@ module _ (bytes : List ℕ) where
         where
           head-same : {m n : ℕ} {a b : List ℕ} → m ∷ a ≡ n ∷ b → m ≡ n
           head-same p = cc
-      go (refused n o) e a = subst (Answers s) (sym (read-is ∙ ap (end-checked end-fault) e)) a
+      go (refused-at n o) e a = subst (Answers s) (sym (read-is ∙ ap (end-checked end-fault) e)) a
 
   -- a reading that reached it
   pub record Reached (plan : Plan) (used : ℕ) : Type 0 where
@@ -80,7 +80,7 @@ module _ (bytes : List ℕ) where
             scanned-is = e ∙ ap (accepted rs) same;
             end-byte = omega (arith, same, w .used-is, encode-length rs);
           }
-      go (refused n o) e a =
+      go (refused-at n o) e a =
           let said : 0 ∷ used ∷ [] ≡ n ∷ o ∷ [] = sym (ap toldRead is) ∙ a .answer-is in
           let none : n ≡ 0 = cc in
           absurd (read-refuses six unchecked bytes n o .0 e .real none)
@@ -106,8 +106,8 @@ module _ (bytes : List ℕ) where
         }
 
     -- and with one it is refused at the end record
-    pub fails-end : (why : PlanRefusal) → WholeFault plan (refusal-number why) → read bytes ≡ refused (refusal-number why) (used - 1)
+    pub fails-end : (why : PlanRefusal) → WholeFault plan (refusal-number why) → read bytes ≡ refused-at (refusal-number why) (used - 1)
     fails-end why fault =
         let n = fault-is fault in
         read-finished
-        ∙ rw (ne-eqb (end-fault (at-end .records)) 0 (λ z. refusal-named why .1 (n ∙ z))) (ap (λ (k : ℕ). refused k (used - 1)) (sym n))
+        ∙ rw (ne-eqb (end-fault (at-end .records)) 0 (λ z. refusal-named why .1 (n ∙ z))) (ap (λ (k : ℕ). refused-at k (used - 1)) (sym n))

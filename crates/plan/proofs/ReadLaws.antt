@@ -13,7 +13,7 @@ use types.Run.{OneOf}
 use denote.Enum.Declared.{tagOf}
 use Rattle.model.specs.House.{Next, next, lacking, unknown, cut, whole}
 use Rattle.model.specs.Plan.{Record, six, record-fault, passes, plan-kinds, bytes-of, records-bytes}
-use Rattle.model.specs.Reading.{accepted, refused, unchecked, scanned}
+use Rattle.model.specs.Reading.{accepted, refused-at, unchecked, scanned}
 use Rattle.model.specs.Faults.{fault-at, fault-next, fault-decoded}
 use Rattle.model.specs.Records.{RecordsOk}
 use Rattle.model.specs.PlanValue.{value, empty-plan, stored, refusal-number}
@@ -62,7 +62,7 @@ module _ (bytes : List ℕ) (plan : Plan) (last : PlanRecord) (at : ℕ) (way : 
   pub inside-bytes : at ≤ length bytes
   inside-bytes = omega (arith, ap length (way .split) ∙ length-append (records-bytes (way .records)) (drop at bytes), way .at-is)
 
-  refuses : (n : ℕ) → (n ≡ 0 → ⊥) → fault-at six unchecked (way .records) (drop at bytes) ≡ n → scanned bytes ≡ refused n at
+  refuses : (n : ℕ) → (n ≡ 0 → ⊥) → fault-at six unchecked (way .records) (drop at bytes) ≡ n → scanned bytes ≡ refused-at n at
   unfolding scanned
   refuses n real e =
       read-refuses six unchecked bytes n at .1
@@ -77,7 +77,7 @@ module _ (bytes : List ℕ) (plan : Plan) (last : PlanRecord) (at : ℕ) (way : 
       })
 
   -- what cannot be read
-  unknown-stops : next-in bytes at ≡ NextRecord.Unknown → scanned bytes ≡ refused 2 at
+  unknown-stops : next-in bytes at ≡ NextRecord.Unknown → scanned bytes ≡ refused-at 2 at
   unfolding fault-at
   unknown-stops e = refuses 2 (λ z. omega arith) (go (next plan-kinds (drop at bytes)) e)
     where
@@ -87,7 +87,7 @@ module _ (bytes : List ℕ) (plan : Plan) (last : PlanRecord) (at : ℕ) (way : 
       go cut q = let z : _≡_ {A = ℕ} 0 1 = cc in absurd (omega arith)
       go (whole k b r) q = let z : _≡_ {A = ℕ} 0 1 = cc in absurd (omega arith)
 
-  cut-stops : next-in bytes at ≡ NextRecord.Cut → scanned bytes ≡ refused 1 at
+  cut-stops : next-in bytes at ≡ NextRecord.Cut → scanned bytes ≡ refused-at 1 at
   unfolding fault-at
   cut-stops e = refuses 1 (λ z. omega arith) (go (next plan-kinds (drop at bytes)) e)
     where
@@ -99,7 +99,7 @@ module _ (bytes : List ℕ) (plan : Plan) (last : PlanRecord) (at : ℕ) (way : 
 
   -- (a match leaves the tags of the two)
   pub unread-stops : (found : NextRecord) → next-in bytes at ≡ found → OneOf (1 ∷ 2 ∷ []) (tagOf next-type.the-type found)
-      → scanned bytes ≡ refused (refusal-number (why-unread found)) at
+      → scanned bytes ≡ refused-at (refusal-number (why-unread found)) at
   unread-stops (NextRecord.Whole r behind) e k =
       ⊎-elim (λ (z : _≡_ {A = ℕ} 0 1). absurd (omega arith)) (λ (z : _≡_ {A = ℕ} 0 2). absurd (omega arith)) k
   unread-stops NextRecord.Cut e k = cut-stops e
@@ -137,7 +137,7 @@ module _ (bytes : List ℕ) (plan : Plan) (last : PlanRecord) (at : ℕ) (way : 
         ap₂ (λ (p : Plan) (l : PlanRecord). value-fault (p .threads) (p .places) (p .edges) l (of-record r)) (way .plan-is) (way .last-is)
         ∙ fault-same (way .records) ok r
 
-    record-stops : (n : ℕ) → (n ≡ 0 → ⊥) → n ≡ its-fault → scanned bytes ≡ refused n at
+    record-stops : (n : ℕ) → (n ≡ 0 → ⊥) → n ≡ its-fault → scanned bytes ≡ refused-at n at
     unfolding fault-at
     record-stops n real f =
         let k = next-record r (here .0) in
@@ -181,14 +181,14 @@ module _ (bytes : List ℕ) (plan : Plan) (last : PlanRecord) (at : ℕ) (way : 
   -- any record of the file
   module _ (nx : PlanRecord) (behind : ℕ) (e : next-in bytes at ≡ NextRecord.Whole nx behind) where
     pub stopped : (why : PlanRefusal) → refusal-number why ≡ value-fault (plan .threads) (plan .places) (plan .edges) last nx
-        → scanned bytes ≡ refused (refusal-number why) at
+        → scanned bytes ≡ refused-at (refusal-number why) at
     stopped why f = go nx e f
       where
         real : refusal-number why ≡ 0 → ⊥
         real = refusal-named why .1
 
         go : (q : PlanRecord) → next-in bytes at ≡ NextRecord.Whole q behind
-            → refusal-number why ≡ value-fault (plan .threads) (plan .places) (plan .edges) last q → scanned bytes ≡ refused (refusal-number why) at
+            → refusal-number why ≡ value-fault (plan .threads) (plan .places) (plan .edges) last q → scanned bytes ≡ refused-at (refusal-number why) at
         go (PlanRecord.Site s t) p g = record-stops (Record.site (s .0) t) behind p (refusal-number why) real g
         go (PlanRecord.Node n s l) p g = record-stops (Record.node (n .0) (s .0) (l .0)) behind p (refusal-number why) real g
         go (PlanRecord.Edge c d) p g = record-stops (Record.edge (c .0) (d .0)) behind p (refusal-number why) real g

@@ -11,7 +11,7 @@ use Rattle.model.specs.House.{Next, lacking, unknown, cut, whole, next}
 use Rattle.model.specs.Net.{Core}
 use Rattle.model.specs.Text.{Text, done-line, bad-line}
 use Rattle.model.specs.Transcript as transcript
-use Rattle.model.specs.Transcript.{command-kinds, request, line, after, turn, lines}
+use Rattle.model.specs.Transcript.{command-kinds, request, line, after, lines-by, lines}
 use Rattle.model.proofs.HouseLaws.{whole-split}
 use Rattle.model.proofs.TranscriptLaws.{lines-enough}
 use Rattle.decode.specs.Asked.{asked, next-in, from-next, request-of}
@@ -56,7 +56,7 @@ whole-found bytes at q behind e = go (next command-kinds (drop at bytes)) refl e
 -- The transcript opens
 
 opens : (turns : ℕ) (net : Core) (at count : ℕ) (bytes : List ℕ)
-    → lines (suc turns) net at count bytes ≡ turn (lines turns) net at count (next command-kinds bytes)
+    → lines (suc turns) net at count bytes ≡ lines-by (lines turns) net at count (next command-kinds bytes)
 unfolding lines
 opens turns net at count bytes = refl
 
@@ -69,7 +69,7 @@ turn-tells bytes net at count q behind e (suc turns) h =
     let r = request (w .kind) (w .body) in
     let fewer : length (drop behind bytes) < turns = omega (arith, length-drop behind bytes, behind-inside bytes at q behind e) in
     opens turns net at count (drop at bytes)
-    ∙ ap (turn (lines turns) net at count) (w .found)
+    ∙ ap (lines-by (lines turns) net at count) (w .found)
     ∙ ap (λ (t : Text). line net r ++ t) (lines-enough turns (after net r) (at + suc (length (w .body))) (suc count) (drop behind bytes) fewer)
     ∙ ap (λ (p : transcript.Request). line net p ++ lines (suc turns) (after net p) (at + suc (length (w .body))) (suc count) (drop behind bytes))
     (sym (w .asked-is))
@@ -112,7 +112,7 @@ run-tells {bytes} {first} {from} {net} {at} {commands} {text} went none-whole =
     same = omega arith
 
     go : (n : Next) → ((q : Request) (behind : ℕ) → NextRequest.Whole q behind ≡ from-next n at → ⊥)
-        → turn (lines (length bytes)) net at (0 + commands) n ≡ last-line (stop-of (from-next n at)) at commands
+        → lines-by (lines (length bytes)) net at (0 + commands) n ≡ last-line (stop-of (from-next n at)) at commands
     go lacking none-there = ap done-line same
     go unknown none-there = refl
     go cut none-there = refl

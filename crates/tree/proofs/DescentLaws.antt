@@ -11,7 +11,7 @@ use mathlib.Core.Bool.{Bool, true, false, cond}
 use mathlib.Core.List.{List}
 use Rattle.ids.specs.Limits.{most-threads}
 use Rattle.lists.proofs.CountLaws.{not-false-so, never-both, same-test}
-use Rattle.model.specs.Site.{lawful, refused}
+use Rattle.model.specs.Site.{lawful, refuses-site}
 use Rattle.model.specs.Tree.{Slack, no-limit, up-to, size, slack, is, walk, onward, from-root, root-height}
 use Rattle.model.proofs.SiteLaws.{Accepted, accepted, not-refused, lawful-at}
 use Rattle.model.specs.declared.Walked.{Walked}
@@ -37,7 +37,7 @@ counted {T} {a} s =
 
 refuses : (T : ℕ) (a : List ℕ) → (Accepted T a → ⊥) → Descent.Refused ≡ descent T a
 unfolding descent
-refuses T a f = rw (not-false-so (refused T a) (λ e. f (accepted T a e)))
+refuses T a f = rw (not-false-so (refuses-site T a) (λ e. f (accepted T a e)))
 
 -- where a tree cannot be built the site is refused
 pub uncounted-refused : (T : ℕ) (a : List ℕ) → (Counted T a → ⊥) → Descent.Refused ≡ descent T a
@@ -54,7 +54,7 @@ module _ (T : ℕ) (a : List ℕ) (ok : Counted T a) (sizes slacks : List ℕ) (
     law : lawful T a ≡ true
     law = root-lawful T a ok (omega (arith, root-stored))
 
-    admitted : refused T a ≡ false
+    admitted : refuses-site T a ≡ false
     admitted = not-refused T a (record { some = ok .some; most = ok .most; long = ok .long; within = ok .within; law = law })
 
     walks-tree : (h n carried : ℕ) → h ≤ root-height → most-threads ≤ n * 2 ^ h → (n + 1) * 2 ^ h ≤ places

@@ -8,7 +8,7 @@ use mathlib.Core.List.{List}
 use denote.Ref.{now}
 use lib.ListN.{length}
 use Rattle.model.specs.Plan.{Record, site, node, edge}
-use Rattle.model.specs.Reading.{refused}
+use Rattle.model.specs.Reading.{refused-at}
 use Rattle.model.specs.PlanValue.{empty-plan, stored, refusal-number}
 use Rattle.model.specs.declared.PlanRecord.{PlanRecord}
 use Rattle.model.specs.declared.PlanRefusal.{PlanRefusal}
@@ -96,7 +96,7 @@ returns c =
     let found = next .next-record .result in
     refused-answers (unread .unread .result) (on .at) (c .refused .ensures) (none-at (next .before))
     (unread-stops (bytes-at (next .before)) (on .plan) (on .last) (on .at) (on .inv) found (sym (next .next-record .ensures)) (unread .before .match .keys2)
-    ∙ ap (λ (why : PlanRefusal). refused (refusal-number why) (on .at)) (sym (unread .unread .ensures)))
+    ∙ ap (λ (why : PlanRefusal). refused-at (refusal-number why) (on .at)) (sym (unread .unread .ensures)))
 
 returns-2 : tie.Need-returns-2 Inv-loop μ-loop
 returns-2 c =
