@@ -77,7 +77,8 @@ module _ (rs : List Record) (pass : passes six rs ≡ true) (cs : List Call) (la
         go true e false = refl
         go false e a = refl
 
-    within : (s : ℕ) → A (counts rs cs s) (threads rs s) ≡ 0
+    -- no call is active at a level that the site does not have
+    pub within : (s : ℕ) → A (counts rs cs s) (threads rs s) ≡ 0
     within s = A-counts rs s pass cs (threads rs s) ∙ count-none (above rs s (threads rs s)) cs (nothing-higher s)
 
     pub blocker : (n : ℕ) → has-node rs n ≡ true → admissible rs cs n ≡ false

@@ -37,5 +37,6 @@ pub mod GivenLaws
 pub mod RefusalRows
 pub mod PublicLaws
 pub mod Demands
+pub mod AgreeLaws
 pub mod TranscriptLaws
 pub mod FullTable

@@ -149,6 +149,7 @@ abbrev pub told-roomed : Roomed → Told
 told-roomed (has-room n) = 0 ∷ n ∷ []
 told-roomed (no-answer n) = n ∷ []
 
+-- of a listed site it is what the site book answers (`room-agrees`, of AgreeLaws)
 unfoldable pub room-at : Core → ℕ → ℕ → Roomed
 room-at net s k =
     cond (not (eqb (threads (net .plan) s) 0) && ltb k (threads (net .plan) s))

@@ -110,7 +110,7 @@ waiting-order rs cs s = picked (waits-on rs s) cs
 unfoldable pub admissible : List Record → List Call → ℕ → Bool
 admissible rs cs n = may-admit (threads rs (site-of rs n)) (counts rs cs (site-of rs n)) (level-of rs n)
 
--- how many levels of a site are admissible; of a lawful site with threads, the firmware's number
+-- how many levels of a site are admissible; of a listed site of a net that keeps the rules, the firmware's number (`limit-agrees`, of AgreeLaws)
 unfoldable pub limit-at : List Record → List Call → ℕ → ℕ
 limit-at rs cs s = limit (threads rs s) (counts rs cs s)
 
