@@ -140,7 +140,7 @@ told-standing not-open = 0 ∷ 2 ∷ []
 unfoldable pub ask : Core → ℕ → Standing
 ask net ticket = standing (lookup (net .calls) ticket)
 
--- the status page's figure, or refusal 30: "room asked of an unlisted site, or of a level not below its threads"
+-- the status page's figure, or a refusal's number: of the net itself 30, "room asked of an unlisted site, or of a level not below its threads"
 pub data Roomed : Type 0 where
   has-room : ℕ → Roomed
   no-answer : ℕ → Roomed

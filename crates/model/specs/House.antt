@@ -13,7 +13,7 @@ Kinds = ℕ → Option ℕ
 
 -- what stands where a record is due
 pub data Next : Type 0 where
-  -- "the input ends where a kind byte is due"
+  -- "the input ends where a kind byte .. is due"
   lacking : Next
   unknown : Next
   -- "or a body byte is due"

@@ -76,7 +76,7 @@ abbrev pub toldRead : ReadAnswer → Told
 toldRead (ReadAnswer.Accepted used) = 0 ∷ used ∷ []
 toldRead (ReadAnswer.Refused why offset) = refusal-number why ∷ offset ∷ []
 
--- what a reading tells, and the plan that it hands back: "a refused plan gives back the empty plan"
+-- what a reading tells, and the plan that it hands back; demand 1, "A refused plan gives back the empty plan"
 abbrev pub reading-told : Reading → Told
 reading-told (accepted rs used) = 0 ∷ used ∷ []
 reading-told (refused-at number offset) = number ∷ offset ∷ []

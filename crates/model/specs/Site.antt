@@ -33,7 +33,7 @@ may-admit T a i = ltb i T && lawful T (raised a i)
 unfoldable pub full : ℕ → List ℕ → ℕ → Bool
 full T a k = eqb (A a k) (T - k)
 
--- "The highest admissible level is one less than the lowest k below T with A[k] = T - k, and T - 1 if no level is full."
+-- "The highest admissible level is one less than the lowest k below T with A[k] = T - k (level k is then full), and T - 1 if no level is full."
 -- This is that level plus 1, and 0 for "none": how many levels are admissible, and the firmware's number
 unfoldable pub limit : ℕ → List ℕ → ℕ
 limit T a = first T (full T a)

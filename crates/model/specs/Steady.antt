@@ -18,7 +18,7 @@ use Rattle.model.specs.NetRules.{parent-stands, parent-kept}
 abbrev pub Lawful : List Record → List Call → Type 0
 Lawful rs cs = (s : ℕ) → lawful (threads rs s) (counts rs cs s) ≡ true
 
--- every rule but the one on waiting calls: each single change of the open calls keeps them
+-- every rule of a core but the one on waiting calls, which whole commands keep: each single change of the open calls keeps these
 pub record Firm (rs : List Record) (cs : List Call) : Type 0 where
   pub pass : passes six rs ≡ true
   pub differ : (t : ℕ) → count (has t) cs ≤ 1

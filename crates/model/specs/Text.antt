@@ -6,7 +6,6 @@ use Prim.Native.String.{String, len, charAt}
 use mathlib.Core.Bool.{cond}
 use mathlib.Core.List.{List, [], _∷_, _++_}
 use lib.Dec.{ltb}
-use Rattle.model.specs.Plan.{edges}
 use Rattle.model.specs.Command.{Command, start, call, return, Answer, refused, active, waiting, ended, Standing, is-running, is-waiting}
 use Rattle.model.specs.Command.{not-open, Roomed, has-room, no-answer}
 

@@ -100,7 +100,7 @@ last-line Stop.End at commands = done-line commands
 last-line Stop.Cut at commands = bad-line 1 at
 last-line Stop.Unknown at commands = bad-line 2 at
 
--- "it ends .. with `done` .. or `bad`": a run that stops at no whole command wrote every line but the last
+-- "The last line is `done` .. or `bad`": a run that stops at no whole command wrote every line but the last
 pub run-tells : {bytes : List ℕ} {first : Core} {from : ℕ} {net : Core} {at commands : ℕ} {text : Text} → Went bytes first from net at commands text
     → ((q : Request) (behind : ℕ) → NextRequest.Whole q behind ≡ next-in bytes at → ⊥)
     → lines (suc (length bytes)) first from 0 (drop from bytes) ≡ text ++ last-line (stop-of (next-in bytes at)) at commands

@@ -1,12 +1,8 @@
--- `sheet::counts_of` is safe and ends. The loop's invariant: i is within the active calls, and every level has its count.
--- Assumes nothing.
+-- `sheet::counts_of` is safe and ends. The loop's invariant: i is within the active calls. Assumes nothing.
 use Prim.Native.Nat.{_-_, _≤_}
 use native.Mathlib.Omega.{arith}
-use mathlib.Core.Path.{_≡_}
-use mathlib.Core.Logic.{⊎-elim}
 use lib.ListN.{length}
 use borrow.Author.Needs.{needs}
-use Rattle.ids.specs.Limits.{most-threads}
 use Rattle.sheet.proofs.counts_of.Statement.{statement}
 use Rattle.sheet.proofs.counts_of.Tie as tie
 
