@@ -3,3 +3,5 @@ pub mod FillLaws
 pub mod PickLaws
 pub mod BlockLaws
 pub mod TellLaws
+pub mod TabledLaws
+pub mod PlaceLaws
