@@ -33,8 +33,8 @@ fn mark(cells: &mut [u8], from: u8, to: u8)
     cells[Node::COUNT * row + column] = 1;
 }
 
-// The call edges.
-fn call_table(plan: Plan) -> Table
+// The call edges, as a table.
+pub fn call_table(plan: Plan) -> Table
     ensures { λ r. ⌜ Is (r .cells) (calls (records-of plan)) ⌝ }
 {
     let mut cells = graph::empty().cells;

@@ -1,4 +1,4 @@
-// One command of a run at a time, read from bytes. An inner crate: `net` alone calls it.
+// One command of a run at a time, read from bytes. An inner crate: the library's own crates alone call it.
 ghost use Prim.Native.Nat.{_+_, _*_};
 ghost use mathlib.Core.Path.{_≡_};
 ghost use Rattle.model.specs.Transcript.{command-kinds};

@@ -22,6 +22,7 @@ use Rattle.model.specs.Command.{start, call, return, fault}
 use Rattle.record.specs.Step.{listed-node}
 use Rattle.table.specs.Places.{holds, Searched}
 use Rattle.moves.specs.Held.{key-of}
+use Rattle.moves.proofs.KeyLaws.{key-active, key-waits}
 use Rattle.moves.proofs.TableLaws.{Found-at, nowhere, there, found-at, tells-table, told-there, child-is}
 use Rattle.faults.specs.Seen.{Listing, Edging, Ticketed, CallSeen, ReturnSeen}
 
@@ -148,23 +149,6 @@ module _ (rs : List Record) (cs : List Call) where
     pub return-0 : c .active ≡ true → has-child cs ticket ≡ false → 0 ≡ fault net (return ticket)
     unfolding fault
     return-0 runs e = rw (stands, runs, e)
-
--- a key is 0 where the call is active, and only there
-pub key-active : (rs : List Record) (c : Call) → key-of rs c ≡ 0 → c .active ≡ true
-unfolding key-of
-key-active rs c e = go (c .active) e
-  where
-    go : (b : Bool) → cond b 0 (most-threads * site-of rs (c .node) + level-of rs (c .node) + 1) ≡ 0 → b ≡ true
-    go true q = refl
-    go false q = absurd (omega arith)
-
-pub key-waits : (rs : List Record) (c : Call) → (key-of rs c ≡ 0 → ⊥) → c .active ≡ false
-unfolding key-of
-key-waits rs c apart = go (c .active) apart
-  where
-    go : (b : Bool) → (cond b 0 (most-threads * site-of rs (c .node) + level-of rs (c .node) + 1) ≡ 0 → ⊥) → b ≡ false
-    go true q = absurd (q refl)
-    go false q = refl
 
 -- the parents tell who has a child
 module _ {rs : List Record} {cs : List Call} {tickets parents keys : List ℕ} {used : ℕ} (seen : ReturnSeen rs cs tickets parents keys used) (ticket : ℕ)

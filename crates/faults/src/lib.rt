@@ -1,4 +1,5 @@
-// What stands in a command's way, inside a run: the number of the first test of its order that fails, or 0. An inner crate: `net` alone calls it.
+// What stands in a command's way, inside a run: the number of the first test of its order that fails, or 0. An inner crate: the library's own crates
+// alone call it.
 ghost use mathlib.Core.List.{List};
 ghost use Rattle.model.specs.Plan.{Record};
 ghost use Rattle.model.specs.Net.{Call};

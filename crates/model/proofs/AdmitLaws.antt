@@ -34,6 +34,23 @@ rule-sound s = LIVE-P-sound
 abbrev pub Held-back : List Record → List Call → ℕ → ℕ → Type 0
 Held-back rs cs s i = Blocked (rule s) (threads rs s) (counts rs cs s) i
 
+module _ (rs : List Record) (pass : passes six rs ≡ true) (cs : List Call) (all-known : (c : Call) → List·Memᴰ c cs → has-node rs (c .node) ≡ true) where
+  nothing-higher : (s : ℕ) (c : Call) → List·Memᴰ c cs → above rs s (threads rs s) c ≡ false
+  unfolding above active-on on
+  nothing-higher s c m = go (eqb (site-of rs (c .node)) s) refl (c .active)
+    where
+      go : (b : Bool) → eqb (site-of rs (c .node)) s ≡ b → (a : Bool) → (b && a && leb (threads rs s) (level-of rs (c .node))) ≡ false
+      go true e true =
+          let same = eqb-true (site-of rs (c .node)) s e in
+          lt-leb (threads rs s) (level-of rs (c .node))
+          (omega (arith, level-below-threads rs pass (c .node) (all-known c m), ap (threads rs) same))
+      go true e false = refl
+      go false e a = refl
+
+  -- no call is active at a level that the site does not have
+  pub within : (s : ℕ) → A (counts rs cs s) (threads rs s) ≡ 0
+  within s = A-counts rs s pass cs (threads rs s) ∙ count-none (above rs s (threads rs s)) cs (nothing-higher s)
+
 module _ (rs : List Record) (pass : passes six rs ≡ true) (cs : List Call) (law : Lawful rs cs) where
   counts-long : (s : ℕ) → threads rs s ≤ length (counts rs cs s)
   counts-long s = omega (arith, threads-most rs pass s, counts-length rs s cs)
@@ -65,29 +82,13 @@ module _ (rs : List Record) (pass : passes six rs ≡ true) (cs : List Call) (la
 
   -- Corollary 1 of the paper, of the net: where a node's call may not be admitted, a call of its site is active at its level or a lower one
   module _ (all-known : (c : Call) → List·Memᴰ c cs → has-node rs (c .node) ≡ true) where
-    nothing-higher : (s : ℕ) (c : Call) → List·Memᴰ c cs → above rs s (threads rs s) c ≡ false
-    unfolding above active-on on
-    nothing-higher s c m = go (eqb (site-of rs (c .node)) s) refl (c .active)
-      where
-        go : (b : Bool) → eqb (site-of rs (c .node)) s ≡ b → (a : Bool) → (b && a && leb (threads rs s) (level-of rs (c .node))) ≡ false
-        go true e true =
-            let same = eqb-true (site-of rs (c .node)) s e in
-            lt-leb (threads rs s) (level-of rs (c .node))
-            (omega (arith, level-below-threads rs pass (c .node) (all-known c m), ap (threads rs) same))
-        go true e false = refl
-        go false e a = refl
-
-    -- no call is active at a level that the site does not have
-    pub within : (s : ℕ) → A (counts rs cs s) (threads rs s) ≡ 0
-    within s = A-counts rs s pass cs (threads rs s) ∙ count-none (above rs s (threads rs s)) cs (nothing-higher s)
-
     pub blocker : (n : ℕ) → has-node rs n ≡ true → admissible rs cs n ≡ false
         → (c : Call) × List·Memᴰ c cs × (active-on rs (site-of rs n) c ≡ true) × (level-of rs (c .node) ≤ level-of rs n)
     unfolding of-level
     blocker n known e =
         let s = site-of rs n in
         let w =
-        B (rule s) (rule-sound s) (threads rs s) (counts rs cs s) (level-of rs n) (level-below-threads rs pass n known) (law s) (within s)
+        B (rule s) (rule-sound s) (threads rs s) (counts rs cs s) (level-of rs n) (level-below-threads rs pass n known) (law s) (within rs pass cs all-known s)
         (blocked n known e)
         in
         let v = some-counted (of-level rs s (w .0)) cs (omega (arith, w .2, counts-at rs s pass cs (w .0))) in

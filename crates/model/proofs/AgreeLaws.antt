@@ -52,7 +52,7 @@ module _ (net : Core) where
           some = some;
           most = threads-most (net .plan) (keeps .plan-passes) s;
           long = counts-length (net .plan) s (net .calls);
-          within = within (net .plan) (keeps .plan-passes) (net .calls) (keeps .sites-lawful) (keeps .nodes-known) s;
+          within = within (net .plan) (keeps .plan-passes) (net .calls) (keeps .nodes-known) s;
           law = keeps .sites-lawful s;
         })
 

@@ -48,7 +48,7 @@ module _ (net : Core) (book : Book) where
 
   -- Tickets
 
-  differ-is : tickets-kept cs ≡ true → (t : ℕ) → count (has t) cs ≤ 1
+  pub differ-is : tickets-kept cs ≡ true → (t : ℕ) → count (has t) cs ≤ 1
   unfolding has tickets-kept
   differ-is e t =
       ⊎-elim
@@ -60,7 +60,7 @@ module _ (net : Core) (book : Book) where
       (λ (p : count (has t) cs ≤ 1). p)
       (lt-or-ge 1 (count (has t) cs))
 
-  not-0-is : tickets-kept cs ≡ true → count (has no-ticket) cs ≡ 0
+  pub not-0-is : tickets-kept cs ≡ true → count (has no-ticket) cs ≡ 0
   unfolding has tickets-kept
   not-0-is e =
       count-none (has no-ticket) cs
@@ -78,7 +78,7 @@ module _ (net : Core) (book : Book) where
 
   -- Sites: those without a record have no threads, and no level that could be too full
 
-  sites-all : passes six rs ≡ true → all-lawful net ≡ true → (s : ℕ) → lawful (threads rs s) (counts rs cs s) ≡ true
+  pub sites-all : passes six rs ≡ true → all-lawful net ≡ true → (s : ℕ) → lawful (threads rs s) (counts rs cs s) ≡ true
   unfolding all-lawful
   sites-all pass e s =
       ⊎-elim

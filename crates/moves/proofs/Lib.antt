@@ -1,3 +1,4 @@
+pub mod KeyLaws
 pub mod RoomLaws
 pub mod TableLaws
 pub mod WakeLaws

@@ -1,4 +1,4 @@
-// The commands inside a run, over the arrays that hold the open calls and the rooms. An inner crate: `net` alone calls it.
+// The commands inside a run, over the arrays that hold the open calls and the rooms. An inner crate: the library's own crates alone call it.
 ghost use Rattle.moves.specs.Held.{arrays, Openable, Opens, Closable, Closes, Servable, Serves};
 use ids::Site;
 use ids::Ticket;

@@ -1,6 +1,6 @@
-// The rooms of each site and level inside a run, T - k - A[k], 255 at or above T: a level is full where its room is 0. An admission takes one from the
-// rooms of its level and those below it, and a return gives it back. The room of level k of a site stands at `base` + k. An inner crate: `moves` and
-// `net` alone call it.
+// The rooms of each site and level inside a run, T - k - A[k], 255 at or above T: a level is full where its room is 0. An admission takes one from
+// the rooms of its level and those below it, and a return gives it back. The room of level k of a site stands at `base` + k. An inner crate: the
+// library's own crates alone call it.
 ghost use mathlib.Core.Path.{_≡_};
 ghost use mathlib.Core.Bool.{cond};
 ghost use Prim.Native.Nat.{_+_, min};

@@ -1,5 +1,5 @@
-// The requests inside a run, over the arrays that hold its net: what each answers, and the arrays left holding the net after it. An inner crate: `net` alone
-// calls it.
+// The requests inside a run, over the arrays that hold its net: what each answers, and the arrays left holding the net after it. An inner crate: the
+// library's own crates alone call it.
 ghost use mathlib.Core.Path.{_≡_};
 ghost use mathlib.Core.Bool.{cond};
 ghost use mathlib.Core.List.{List};

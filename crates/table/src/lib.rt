@@ -1,5 +1,6 @@
 // The table of open calls inside a run: arrays of numbers, dense, in the order of opening, zero past the count. Searches go by blocks of 32 places
-// without an exit, which the back end turns into wide compares, and look closer in the block that hit. An inner crate: `moves` alone calls it.
+// without an exit, which the back end turns into wide compares, and look closer in the block that hit. An inner crate: the library's own crates alone
+// call it.
 ghost use mathlib.Core.Path.{_≡_};
 ghost use Prim.Native.Nat.{_+_, _≤_};
 ghost use lib.ListN.{length};

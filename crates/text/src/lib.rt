@@ -1,5 +1,5 @@
-// The text inside a run: items and lines written into a lent buffer, each function answering the place behind what it wrote. An inner crate: `net` and
-// `bench` alone call it, and leave room for what is written.
+// The text inside a run: items and lines written into a lent buffer, each function answering the place behind what it wrote. An inner crate: the
+// library's own crates alone call it, and leave room for what is written.
 ghost use Prim.Native.Nat.{_+_, _≤_, _<_};
 ghost use lib.ListN.{length};
 ghost use Rattle.model.specs.Text.{ascii, decimal, spaced, plan-line, plan-refused-line, done-line, bad-line};

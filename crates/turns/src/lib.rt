@@ -1,4 +1,5 @@
-// One turn of a run: a request answered over the arrays that hold the net, and its line written. An inner crate: `net` alone calls it.
+// One turn of a run: a request answered over the arrays that hold the net, and its line written. An inner crate: the library's own crates alone call
+// it.
 ghost use Prim.Native.Nat.{_+_, _≤_};
 ghost use lib.ListN.{length};
 ghost use Rattle.text.specs.Put.{Put};

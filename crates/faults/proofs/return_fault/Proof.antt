@@ -3,7 +3,8 @@ use native.Mathlib.Omega.{arith}
 use mathlib.Core.Path.{sym, ap, _∙_}
 use Rattle.model.specs.Net.{lookup, has}
 use Rattle.moves.proofs.TableLaws.{told-there}
-use Rattle.faults.proofs.LadderLaws.{find-fits, nobody-0, not-there, is-there, child-fits, child-told, key-active, key-waits, return-27}
+use Rattle.moves.proofs.KeyLaws.{key-active, key-waits}
+use Rattle.faults.proofs.LadderLaws.{find-fits, nobody-0, not-there, is-there, child-fits, child-told, return-27}
 use Rattle.faults.proofs.LadderLaws.{return-28, return-29, return-0}
 use Rattle.faults.proofs.return_fault.Statement.{statement}
 use Rattle.faults.proofs.return_fault.Tie as tie

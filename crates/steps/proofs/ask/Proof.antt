@@ -3,7 +3,8 @@ use native.Mathlib.Omega.{arith}
 use mathlib.Core.Path.{sym, ap, _∙_}
 use Rattle.model.specs.Net.{lookup, has}
 use Rattle.moves.proofs.TableLaws.{told-there}
-use Rattle.faults.proofs.LadderLaws.{find-fits, nobody-0, not-there, is-there, key-active, key-waits}
+use Rattle.moves.proofs.KeyLaws.{key-active, key-waits}
+use Rattle.faults.proofs.LadderLaws.{find-fits, nobody-0, not-there, is-there}
 use Rattle.steps.proofs.AskLaws.{asked-nobody, asked-waiting, asked-running}
 use Rattle.steps.proofs.ask.Statement.{statement}
 use Rattle.steps.proofs.ask.Tie as tie
