@@ -1,2 +1,4 @@
 mod TakenLaws
 mod CheckLaws
+mod FitLaws
+mod PassLaws

@@ -1,6 +1,10 @@
 -- What the check of a plan value answers, for the contracts of `audit`. Assumes nothing.
 use mathlib.Core.Path.{_≡_}
-use Rattle.model.specs.PlanValue.{empty-plan}
+use mathlib.Core.Bool.{Bool, _&&_}
+use lib.Dec.{leb}
+use Rattle.ids.specs.Limits.{most-edges}
+use Rattle.model.specs.Plan.{six, passes}
+use Rattle.model.specs.PlanValue.{empty-plan, records-of}
 use Rattle.model.specs.PlanFault.{plan-fault, checked-plan}
 use Rattle.model.specs.declared.Plan.{Plan}
 use Rattle.model.specs.declared.PlanRefusal.{PlanRefusal}
@@ -16,3 +20,7 @@ pub record Audits (plan : Plan) (r : Audited) : Type 0 where
 -- a refusal hands back the empty plan
 abbrev pub refused-audit : PlanRefusal → Audited
 refused-audit why = record { checked = Checked.Refused why; plan = empty-plan }
+
+-- "the plan's records pass checks 3 to 6 and 9", and their count of edges has places
+unfoldable pub records-pass : Plan → Bool
+records-pass plan = leb (plan .edges) most-edges && passes six (records-of plan)

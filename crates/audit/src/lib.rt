@@ -1,11 +1,13 @@
 // The checks on a plan's value, which may be anybody's: its records are taken up one after the other in the file's order, each by the step that
 // reads a file's record, and then the whole plan is checked. What passes is handed on in its one form, from which a net is made.
 ghost use mathlib.Core.Path.{_≡_};
-ghost use Prim.Native.Nat.{_≤_};
+ghost use Prim.Native.Nat.{_<_, _≤_};
+ghost use lib.ListN.{length};
 ghost use Rattle.ids.specs.Limits.{sites, nodes, most-edges};
 ghost use Rattle.model.specs.PlanValue.{records-of};
 ghost use Rattle.audit.specs.Taken.{Taken, Takes, sites-to, nodes-to};
-ghost use Rattle.audit.specs.Audits.{Audits, refused-audit};
+ghost use Rattle.audit.specs.Audits.{Audits, records-pass, refused-audit};
+ghost use Rattle.audit.specs.Fits.{node-fits, pair-fits, sites-fit, nodes-fit, edges-fit};
 use ids::Level;
 use ids::Node;
 use ids::Site;
@@ -100,6 +102,99 @@ fn take_records(plan: Plan) -> Audit
         audit = take(audit, PlanRecord::Edge(Node(caller), Node(callee)));
     }
     audit
+}
+
+// Whether each site has at most 64 threads; 0 is no site.
+fn sites_pass(threads: &[u8]) -> bool
+    requires { ⌜ length (now threads) ≡ sites ⌝ }
+    ensures { λ r. ⌜ r ≡ sites-fit (now (threads .entry)) ⌝ }
+{
+    for site in 0..Site::COUNT {
+        if threads[site] as usize > Site::THREADS {
+            return false;
+        }
+    }
+    true
+}
+
+// Whether a node has no record, or its level is below its site's threads; a site without a record has none.
+fn node_fits<'a>(threads: &'a [u8], places: &'a [u8], levels: &'a [u8], n: usize) -> bool
+    requires { ⌜ (n < length (now places)) × (n < length (now levels)) ⌝ }
+    ensures { λ r. ⌜ r ≡ node-fits (now (threads .entry)) (now (places .entry)) (now (levels .entry)) n ⌝ }
+{
+    let place = places[n];
+    if place == Plan::NOWHERE {
+        return true;
+    }
+    levels[n] < record::byte(threads, place as usize)
+}
+
+// The same of all nodes.
+fn nodes_pass<'a>(threads: &'a [u8], places: &'a [u8], levels: &'a [u8]) -> bool
+    requires { ⌜ (length (now places) ≡ nodes) × (length (now levels) ≡ nodes) ⌝ }
+    ensures { λ r. ⌜ r ≡ nodes-fit (now (threads .entry)) (now (places .entry)) (now (levels .entry)) ⌝ }
+{
+    for n in 0..Node::COUNT {
+        if !node_fits(threads, places, levels, n) {
+            return false;
+        }
+    }
+    true
+}
+
+// Whether the pair at a place rises from the one before it.
+fn pair_fits<'a>(callers: &'a [u8], callees: &'a [u8], i: usize) -> bool
+    requires { ⌜ (i < length (now callers)) × (i < length (now callees)) ⌝ }
+    ensures { λ r. ⌜ r ≡ pair-fits (now (callers .entry)) (now (callees .entry)) i ⌝ }
+{
+    if i == 0 {
+        return true;
+    }
+    let before = callers[i - 1];
+    let caller = callers[i];
+    if before < caller {
+        return true;
+    }
+    if before != caller {
+        return false;
+    }
+    callees[i - 1] < callees[i]
+}
+
+// Whether each edge is between nodes that have records, and the pairs rise.
+fn edges_pass<'a>(places: &'a [u8], callers: &'a [u8], callees: &'a [u8], edges: usize) -> bool
+    requires { ⌜ (edges ≤ length (now callers)) × (edges ≤ length (now callees)) ⌝ }
+    ensures { λ r. ⌜ r ≡ edges-fit (now (places .entry)) (now (callers .entry)) (now (callees .entry)) edges ⌝ }
+{
+    for i in 0..edges {
+        if !record::has_node(places, Node(callers[i])) {
+            return false;
+        }
+        if !record::has_node(places, Node(callees[i])) {
+            return false;
+        }
+        if !pair_fits(callers, callees, i) {
+            return false;
+        }
+    }
+    true
+}
+
+// Whether a plan's count of edges has places and its records pass the checks on single records: what a net asks of its plan. The arrays are looked at
+// where they are, since every command asks it.
+pub fn passes(plan: Plan) -> bool
+    ensures { λ r. ⌜ r ≡ records-pass plan ⌝ }
+{
+    if Node::EDGES < plan.edges {
+        return false;
+    }
+    if !sites_pass(&plan.threads) {
+        return false;
+    }
+    if !nodes_pass(&plan.threads, &plan.places, &plan.levels) {
+        return false;
+    }
+    edges_pass(&plan.places, &plan.callers, &plan.callees, plan.edges)
 }
 
 // A refusal, with the empty plan.
