@@ -77,13 +77,14 @@ turn-tells bytes net at count q behind e (suc turns) h =
     (sym (w .behind-is))
     (sym (add-one count))
 
-pub lines-went : {bytes : List ℕ} {first : Core} {from : ℕ} {net : Core} {at commands : ℕ} {text : Text} → Went bytes first from net at commands text
+pub lines-went : {bytes : List ℕ} {size : ℕ} {first : Core} {from : ℕ} {net : Core} {at commands : ℕ} {text : Text}
+    → Went bytes size first from net at commands text
     → (turns count : ℕ) → length bytes < turns
     → lines turns first from count (drop from bytes) ≡ text ++ lines turns net at (count + commands) (drop at bytes)
-lines-went {bytes} {first} {from} nowhere turns count h =
+lines-went {bytes} {size} {first} {from} nowhere turns count h =
     let same : count ≡ count + 0 = omega arith in
     ap (λ (n : ℕ). lines turns first from n (drop from bytes)) same
-lines-went {bytes} {first} {from} (further {net = net} {at = at} {commands = commands} {lines = text} went q behind e) turns count h =
+lines-went {bytes} {size} {first} {from} (further {net = net} {at = at} {commands = commands} {lines = text} went room q behind e) turns count h =
     let told = line net (asked q) in
     let counted : count + commands + 1 ≡ count + (commands + 1) = omega arith in
     lines-went went turns count h
@@ -101,7 +102,8 @@ last-line Stop.Cut at commands = bad-line 1 at
 last-line Stop.Unknown at commands = bad-line 2 at
 
 -- "The last line is `done` .. or `bad`": a run that stops at no whole command wrote every line but the last
-pub run-tells : {bytes : List ℕ} {first : Core} {from : ℕ} {net : Core} {at commands : ℕ} {text : Text} → Went bytes first from net at commands text
+pub run-tells : {bytes : List ℕ} {size : ℕ} {first : Core} {from : ℕ} {net : Core} {at commands : ℕ} {text : Text}
+    → Went bytes size first from net at commands text
     → ((q : Request) (behind : ℕ) → NextRequest.Whole q behind ≡ next-in bytes at → ⊥)
     → lines (suc (length bytes)) first from 0 (drop from bytes) ≡ text ++ last-line (stop-of (next-in bytes at)) at commands
 run-tells {bytes} {first} {from} {net} {at} {commands} {text} went none-whole =

@@ -14,6 +14,7 @@ use Rattle.model.specs.Text.{Text}
 use Rattle.model.specs.Transcript.{command-kinds}
 use Rattle.model.proofs.HouseLaws.{whole-length}
 use Rattle.moves.specs.Held.{Arrays}
+use Rattle.text.specs.Room.{line-room}
 use Rattle.text.proofs.PutLaws.{put-then}
 use Rattle.decode.specs.Asked.{next-in, from-next}
 use Rattle.decode.specs.declared.Request.{Request}
@@ -37,10 +38,10 @@ behind-inside bytes at request behind e = go (next command-kinds (drop at bytes)
         let same : behind ≡ at + suc (length body) = cc in
         (omega arith, omega (arith, length-drop at bytes, whole-length command-kinds (drop at bytes) kind body rest is))
 
-pub count-inside : {bytes : List ℕ} {first : Core} {from : ℕ} {net : Core} {at commands : ℕ} {lines : Text}
-    → Went bytes first from net at commands lines → commands ≤ at
+pub count-inside : {bytes : List ℕ} {size : ℕ} {first : Core} {from : ℕ} {net : Core} {at commands : ℕ} {lines : Text}
+    → Went bytes size first from net at commands lines → commands ≤ at
 count-inside nowhere = omega arith
-count-inside {bytes} (further {at = at} went request behind e) = omega (arith, count-inside went, behind-inside bytes at request behind e .0)
+count-inside {bytes} (further {at = at} went room request behind e) = omega (arith, count-inside went, behind-inside bytes at request behind e .0)
 
 module _ {first : Core} {used : ℕ} {most-of places levels edges bytes : List ℕ} {from : ℕ} {old : List ℕ} where
   pub begins : {a : Arrays} → Running first a used most-of places levels edges
@@ -49,14 +50,14 @@ module _ {first : Core} {used : ℕ} {most-of places levels edges bytes : List �
 
   pub goes-on : {b d : Arrays} {at commands : ℕ} {new newer : List ℕ} {to next-to next-used : ℕ} (request : Request) (behind : ℕ)
       → (on : Standing first b used most-of places levels edges bytes from at commands old new to)
-      → NextRequest.Whole request behind ≡ next-in bytes at
+      → to + line-room ≤ length old → NextRequest.Whole request behind ≡ next-in bytes at
       → Turned (on .net) request d next-used most-of places levels edges new to newer next-to
       → Standing first d next-used most-of places levels edges bytes from behind (commands + 1) old newer next-to
-  goes-on request behind on found turned =
+  goes-on request behind on room found turned =
       record {
         net = _;
         lines = _;
-        went = further (on .went) request behind found;
+        went = further (on .went) (omega (arith, on .written .end-is)) request behind found;
         runs-on = turned .runs-on;
         written = put-then (on .written) (turned .written);
       }
@@ -64,9 +65,9 @@ module _ {first : Core} {used : ℕ} {most-of places levels edges bytes : List �
 -- A run stops
 
 -- what is found is no whole command, so that none stands there
-pub no-whole : {bytes : List ℕ} {at room : ℕ} {why : Stop} (found : NextRequest) → found ≡ next-in bytes at
+pub no-whole : {bytes : List ℕ} {at room : ℕ} {why : Stop} (found : NextRequest) → line-room ≤ room → found ≡ next-in bytes at
     → OneOf (1 ∷ 2 ∷ 3 ∷ []) (tagOf next-type.the-type found) → why ≡ stop-of found → Stops bytes at room why
-no-whole found is tag says = no-command (λ request behind e. go found tag request behind (e ∙ sym is)) (says ∙ ap stop-of is)
+no-whole found fits is tag says = no-command fits (λ request behind e. go found tag request behind (e ∙ sym is)) (says ∙ ap stop-of is)
   where
     go : (n : NextRequest) → OneOf (1 ∷ 2 ∷ 3 ∷ []) (tagOf next-type.the-type n) → (request : Request) (behind : ℕ) → NextRequest.Whole request behind ≡ n → ⊥
     go (NextRequest.Whole q b) k request behind e =

@@ -1,6 +1,6 @@
 -- How far a run went, told of whichever net the arrays hold: command after command, each with the net after it and its line behind the last one. For the
 -- contracts of `runs`. Assumes nothing.
-use Prim.Native.Nat.{ℕ, _+_, _-_, _<_}
+use Prim.Native.Nat.{ℕ, _+_, _-_, _≤_, _<_}
 use mathlib.Core.Path.{_≡_}
 use mathlib.Core.List.{List, [], _++_}
 use lib.ListN.{length}
@@ -17,12 +17,12 @@ use Rattle.steps.specs.Running.{Running}
 use Rattle.runs.specs.declared.Stop.{Stop}
 use Rattle.runs.specs.declared.Ran.{Ran}
 
--- the net, the place in the input, the commands answered and their lines
-pub data Went (bytes : List ℕ) (first : Core) (from : ℕ) : Core → ℕ → ℕ → Text → Type 0 where
-  nowhere : Went bytes first from first from 0 []
-  further : {net : Core} {at commands : ℕ} {lines : Text} → Went bytes first from net at commands lines → (request : Request) (behind : ℕ)
-      → NextRequest.Whole request behind ≡ next-in bytes at
-      → Went bytes first from (after net (asked request)) behind (commands + 1) (lines ++ line net (asked request))
+-- the net, the place in the input, the commands answered and their lines; a command is answered where its line has room in a text of this size
+pub data Went (bytes : List ℕ) (size : ℕ) (first : Core) (from : ℕ) : Core → ℕ → ℕ → Text → Type 0 where
+  nowhere : Went bytes size first from first from 0 []
+  further : {net : Core} {at commands : ℕ} {lines : Text} → Went bytes size first from net at commands lines → length lines + line-room ≤ size
+      → (request : Request) (behind : ℕ) → NextRequest.Whole request behind ≡ next-in bytes at
+      → Went bytes size first from (after net (asked request)) behind (commands + 1) (lines ++ line net (asked request))
 
 -- what stands where a command is due, as a reason to stop
 abbrev pub stop-of : NextRequest → Stop
@@ -31,18 +31,18 @@ stop-of NextRequest.End = Stop.End
 stop-of NextRequest.Cut = Stop.Cut
 stop-of NextRequest.Unknown = Stop.Unknown
 
--- no room for a line, or no whole command
+-- no room for a line, and else no whole command
 pub data Stops (bytes : List ℕ) (at room : ℕ) (why : Stop) : Type 0 where
   full : room < line-room → why ≡ Stop.Full → Stops bytes at room why
-  no-command : ((request : Request) (behind : ℕ) → NextRequest.Whole request behind ≡ next-in bytes at → ⊥) → why ≡ stop-of (next-in bytes at)
-      → Stops bytes at room why
+  no-command : line-room ≤ room → ((request : Request) (behind : ℕ) → NextRequest.Whole request behind ≡ next-in bytes at → ⊥)
+      → why ≡ stop-of (next-in bytes at) → Stops bytes at room why
 
 -- where a run stands
 pub record Standing (first : Core) (b : Arrays) (used : ℕ) (most-of places levels edges bytes : List ℕ) (from at commands : ℕ) (old new : List ℕ)
     (to : ℕ) : Type 0 where
   pub net : Core
   pub lines : Text
-  pub went : Went bytes first from net at commands lines
+  pub went : Went bytes (length old) first from net at commands lines
   pub runs-on : Running net b used most-of places levels edges
   pub written : Put old 0 lines new to
 

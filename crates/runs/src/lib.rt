@@ -1,4 +1,5 @@
-// A run: commands from bytes, one turn after another, until the bytes end or the lines have no more room. An inner crate: `net` alone calls it.
+// A run: commands from bytes, one turn after another, until the bytes end or the lines have no more room. An inner crate: the library's own crates
+// alone call it.
 ghost use mathlib.Core.Path.{_≡_};
 ghost use Rattle.moves.specs.Held.{arrays};
 ghost use Rattle.turns.specs.Turn.{Answerable};

@@ -1,12 +1,13 @@
 -- `runs::run` meets its contract. The loop's invariant: the run went some commands far, the arrays hold the net behind them and the text their lines. The
 -- measure is the bytes left. Assumes nothing.
-use Prim.Native.Nat.{_-_, _≤_, _<_}
+use Prim.Native.Nat.{_+_, _-_, _≤_, _<_}
 use mathlib.Core.Path.{_≡_, refl, sym, _∙_}
 use native.Mathlib.Omega.{arith}
 use denote.Ref.{now}
 use lib.ListN.{length}
 use Rattle.model.specs.Net.{Core}
 use Rattle.moves.specs.Held.{arrays}
+use Rattle.text.specs.Room.{line-room}
 use Rattle.text.proofs.PutLaws.{put-long}
 use Rattle.decode.specs.Asked.{next-in}
 use Rattle.decode.specs.declared.NextRequest.{NextRequest}
@@ -106,8 +107,10 @@ same-length-12 c = put-long (stands (stopped-at c) .written)
 returns-2 : tie.Need-returns-2 Inv-loop μ-loop
 returns-2 c =
     let asked = c .before .before in
-    λ first run.
-    (stopped-at c .loop .inv first run, no-whole (asked .next-request .result) (asked .next-request .ensures) (c .before .match .keys2) (c .reason .ensures))
+    λ first run. (
+      stopped-at c .loop .inv first run,
+      no-whole (asked .next-request .result) (asked .before .if1 .left) (asked .next-request .ensures) (c .before .match .keys2) (c .reason .ensures),
+    )
 
 -- A turn
 
@@ -124,6 +127,13 @@ turn-requires : tie.Need-turn-requires Inv-loop μ-loop
 turn-requires c κs =
     let on = turning-at c in
     ((stands on .net, stands on .runs-on), omega (arith, stands on .written .inside))
+
+line-fits : (c : tie.After-turn-arg6 Inv-loop μ-loop)
+    → turning-at c .loop .to + line-room ≤ length (now (entry (turning-at c) .args .text))
+line-fits c =
+    let on = stands (turning-at c) .written in
+    let asked = found-at c .before .before in
+    omega (arith, on .inside, put-long on, asked .before .if1 .left)
 
 -- behind the turn
 abbrev turned-at : tie.After-slice-known12 Inv-loop μ-loop → tie.After-turn Inv-loop μ-loop
@@ -161,7 +171,7 @@ loop-again c =
     let on = turning-at (turned .before) in
     λ first run.
     let here = on .loop .inv first run in
-    goes-on _ _ here (whole-there found) (turned .turn .ensures (here .net) (here .runs-on))
+    goes-on _ _ here (line-fits (turned .before)) (whole-there found) (turned .turn .ensures (here .net) (here .runs-on))
 
 pub run-spec : {M : Type 1} → statement M
 run-spec =
