@@ -1,0 +1,3 @@
+pub mod ApartLaws
+pub mod KeyLaws
+pub mod JoinLaws

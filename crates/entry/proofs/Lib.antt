@@ -1,0 +1,3 @@
+pub mod BrokenLaws
+pub mod HeldLaws
+pub mod PartLaws

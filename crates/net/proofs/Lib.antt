@@ -1,0 +1,8 @@
+pub mod FreshLaws
+pub mod AnsweredLaws
+pub mod EmptyLaws
+pub mod RoomLaws
+pub mod RanLaws
+pub mod ValueLaws
+pub mod Demands
+pub mod OnceLaws

@@ -1,0 +1,5 @@
+pub mod TicketLaws
+pub mod CallLaws
+pub mod ParentLaws
+pub mod NodeLaws
+pub mod SettledLaws

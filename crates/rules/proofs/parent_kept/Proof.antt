@@ -1,0 +1,86 @@
+-- `rules::parent_kept` meets its contract: no parent, nobody found, a parent that waits, or what the table of edges says. Assumes nothing.
+use native.Mathlib.Omega.{arith}
+use Rattle.rules.proofs.ParentLaws.{none-kept, parent-fits, Parent, parent-lacks, parent-there, parent-waits, edge-inside, parent-edge}
+use Rattle.rules.proofs.parent_kept.Statement.{statement}
+use Rattle.rules.proofs.parent_kept.Tie as tie
+
+-- the function's entry, and the search
+abbrev start : tie.After-find → tie.Start
+start c = let else1 = c .before in else1 .before .before .before .before .before
+
+-- who was found, of the net that the arrays hold at the entry
+abbrev found : (c : tie.Else2) → Parent (start (c .before) .pre .2) (c .before .before .if1 .left) (c .before .find .result)
+found c =
+    let at-find = c .before in
+    parent-there (start at-find .pre .2) (at-find .before .if1 .left) (at-find .find .result) (at-find .find .ensures) (c .if2 .left)
+
+returns : tie.Need-returns
+returns c = λ rs cs ok. none-kept rs cs _ _ (c .if1 .taken)
+
+find-requires : tie.Need-find-requires
+find-requires c κs = parent-fits (c .before .before .before .before .before .pre .2) (c .if1 .left)
+
+returns-2 : tie.Need-returns-2
+returns-2 c = let at-find = c .before in λ rs cs ok. parent-lacks ok (at-find .before .if1 .left) _ (at-find .find .ensures) (c .if2 .taken)
+
+mul-if3 : tie.Need-mul-if3
+mul-if3 c = omega (arith, found c .at-inside)
+
+shared-slice-read-if3 : tie.Need-shared-slice-read-if3
+shared-slice-read-if3 c = omega (arith, found (c .before) .at-inside, start (c .before .before) .pre .2 .seen .of-keys .whole)
+
+returns-3 : tie.Need-returns-3
+returns-3 c =
+    let none-2 = c .before .before in
+    let at-find = none-2 .before in
+    λ rs cs ok.
+    let apart = at-find .before .if1 .left in
+    parent-waits ok apart _ (parent-there ok apart _ (at-find .find .ensures) (none-2 .if2 .left)) (c .if3 .taken)
+
+shared-slice-read-result : tie.Need-shared-slice-read-result
+shared-slice-read-result c =
+    let none-2 = c .before .before .before in
+    omega (arith, found none-2 .at-inside, start (none-2 .before) .pre .2 .seen .of-nodes .whole)
+
+cast-result : tie.Need-cast-result
+cast-result c = omega (arith, c .shared-slice-known6 .given (c .before .before .before .before .find .result))
+
+mul-result : tie.Need-mul-result
+mul-result c = omega (arith, c .shared-slice-known6 .given (c .before .before .before .before .find .result))
+
+add-result : tie.Need-add-result
+add-result c =
+    let at-find = c .before .before .before .before in
+    omega (arith, c .shared-slice-known6 .given (at-find .find .result), start at-find .pre .2 .node-inside)
+
+shared-slice-read-result-2 : tie.Need-shared-slice-read-result-2
+shared-slice-read-result-2 c =
+    let none-2 = c .before .before .before .before in
+    let at-find = none-2 .before in
+    edge-inside (start at-find .pre .2) (at-find .before .if1 .left) (at-find .find .result) (found none-2)
+
+returns-4 : tie.Need-returns-4
+returns-4 c =
+    let runs = c .before .before in
+    let none-2 = runs .before .before in
+    let at-find = none-2 .before in
+    λ rs cs ok.
+    let apart = at-find .before .if1 .left in
+    parent-edge ok apart _ (parent-there ok apart _ (at-find .find .ensures) (none-2 .if2 .left)) (runs .if3 .left)
+
+pub parent-kept-spec : {M : Type 1} → statement M
+parent-kept-spec =
+    tie.close
+    (tie.spec
+    returns
+    find-requires
+    returns-2
+    mul-if3
+    shared-slice-read-if3
+    returns-3
+    shared-slice-read-result
+    cast-result
+    mul-result
+    add-result
+    shared-slice-read-result-2
+    returns-4)
