@@ -13,7 +13,7 @@ use lib.Dec.{leb, eqb}
 use borrow.Author.Tests.{eqb-true, eqb-false, eq-eqb, ne-eqb}
 use Rattle.lists.specs.Pick.{changed}
 use Rattle.lists.proofs.CountLaws.{true-or-false, never-both, lt-or-ge}
-use Rattle.lists.proofs.PickLaws.{one-most, found-none, changed-none}
+use Rattle.lists.proofs.PickLaws.{one-most, found-in, found-none, changed-none}
 use Rattle.model.specs.Site.{A, raised}
 use Rattle.model.specs.Rule.{Blocked}
 use Rattle.model.specs.Plan.{Record, threads}
@@ -21,11 +21,11 @@ use Rattle.model.specs.Net.{Call, has-node, site-of, level-of, has, is-o
 use Rattle.model.specs.Net.{may-wake, to-wake, activated, woken}
 use Rattle.model.specs.NetRules.{could-go}
 use Rattle.model.specs.Steady.{Firm, Newcomer, Ending}
-use Rattle.model.proofs.SiteLaws.{A-one}
+use Rattle.model.proofs.SiteLaws.{A-one, A-kept}
 use Rattle.model.proofs.RuleLaws.{D, M, X}
 use Rattle.model.proofs.PlaceLaws.{level-small}
 use Rattle.model.proofs.CountsLaws.{more, counts-length, counts-opened, counts-closed, counts-woken}
-use Rattle.model.proofs.AdmitLaws.{rule, rule-sound, Held-back, blocked, held-back}
+use Rattle.model.proofs.AdmitLaws.{rule, rule-sound, Held-back, free, blocked, held-back}
 use Rattle.model.proofs.FirmLaws.{opened-firm, closed-firm, woken-firm, in-opened, in-closed, to-wake-fits, in-woken}
 
 abbrev pub Settled : List Record → List Call → Type 0
@@ -204,6 +204,43 @@ module _ (rs : List Record) (cs : List Call) (f : Firm rs cs) (settled : Settled
       go (some d) e =
           held-back rs (f .pass) (woken rs left here) (after-firm .law) (c .node) (left-firm .known c m)
           (subst (λ (s : ℕ). Held-back rs (woken rs left here) s (level-of rs (c .node))) (sym same) (others-held d e c m w same))
+
+  -- A thread that comes back below the lowest full level leaves that level full, and nobody who waits may go
+
+  ended-known : has-node rs (gone .node) ≡ true
+  ended-known = f .known gone (found-in (has ticket) cs gone (end .stands) .0)
+
+  still-full : (k : ℕ) → level-of rs (gone .node) < k → A (counts rs cs here) k ≡ A (counts rs left here) k
+  unfolding closed
+  still-full k high =
+      rw (counts-closed rs here (f .pass) (has ticket) cs gone (end .stands))
+      (go (active-on rs here gone))
+    where
+      go : (b : Bool) → A (more b (counts rs left here) (level-of rs (gone .node))) k ≡ A (counts rs left here) k
+      go true = A-kept (counts rs left here) (level-of rs (gone .node)) k high
+      go false = refl
+
+  held-after : admissible rs cs (gone .node) ≡ true → (i : ℕ) → Held-back rs cs here i → Held-back rs left here i
+  unfolding rule
+  held-after could i b =
+      ⊎-elim
+      (λ (high : level-of rs (gone .node) < b .0). (b .0, b .1, b .2, omega (arith, b .3, still-full (b .0) high)))
+      (λ (low : b .0 ≤ level-of rs (gone .node)). absurd (free rs (f .pass) cs (f .law) (gone .node) ended-known could (b .0, b .1, (low, b .2 .1), b .3)))
+      (lt-or-ge (level-of rs (gone .node)) (b .0))
+
+  pub nobody-freed : admissible rs cs (gone .node) ≡ true → to-wake rs left here ≡ none
+  nobody-freed could = go (to-wake rs left here) refl
+    where
+      go : (o : Option Call) → to-wake rs left here ≡ o → o ≡ none
+      go none e = refl
+      go (some d) e =
+          let w = to-wake-fits rs left left-firm here d e in
+          let known = left-firm .known d (w .0) in
+          let before = blocked rs (f .pass) cs (f .law) (d .node) known (held-before d (w .0) (w .2)) in
+          let level = level-of rs (d .node) in
+          let after = held-after could level (subst (λ (s : ℕ). Held-back rs cs s level) (w .1) before) in
+          let held = held-back rs (f .pass) left (left-firm .law) (d .node) known (subst (λ (s : ℕ). Held-back rs left s level) (sym (w .1)) after) in
+          absurd (never-both (w .3) held)
 
   pub returned-settled : Settled rs (woken rs left here)
   returned-settled c m =

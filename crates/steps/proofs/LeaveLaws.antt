@@ -1,21 +1,26 @@
 -- A return: the call that ends and its node in the plan's arrays, and the net after its thread has gone to the oldest waiter. Assumes nothing.
-use Prim.Native.Nat.{ℕ, _-_, _<_}
+use Prim.Native.Nat.{_*_, ℕ, _-_, _<_}
 use native.Mathlib.Omega.{arith}
 use mathlib.Core.Path.{_≡_, sym, ap, subst, _∙_}
 use mathlib.Core.Bool.{true}
 use mathlib.Core.List.{List}
-use mathlib.Core.Option.{Option}
+use mathlib.Core.Option.{Option, none}
 use lib.ListN.{getD}
-use Rattle.ids.specs.Limits.{sites, nodes, most-open}
+use Rattle.ids.specs.Limits.{sites, nodes, most-threads, most-open, no-ticket}
+use Rattle.lists.specs.Count.{first}
 use Rattle.lists.specs.Pick.{first-place}
 use Rattle.lists.proofs.PickLaws.{found-in}
 use Rattle.lists.proofs.TellLaws.{place-inside}
-use Rattle.model.specs.Net.{Call, Core, has-node, site-of, level-of, has, lookup, node-of, ticket-of, closed, to-wake, woken}
+use Rattle.model.specs.Net.{Call, Core, has-node, site-of, level-of, has, lookup, node-of, ticket-of, admissible, closed, to-wake, woken}
 use Rattle.model.specs.Steady.{Ending}
 use Rattle.model.specs.Command.{return, ended, fault, serving, step}
 use Rattle.model.proofs.StepLaws.{accepted-step, return-fits}
+use Rattle.model.proofs.SettledLaws.{nobody-freed}
+use Rattle.rooms.specs.Rooms.{no-room, Limited}
 use Rattle.moves.specs.Held.{Arrays, Held, CanClose, CanServe}
 use Rattle.moves.proofs.TableLaws.{told-there}
+use Rattle.moves.proofs.OpenLaws.{limit-fits, lets-in}
+use Rattle.moves.proofs.ServeLaws.{nobody-woken}
 use Rattle.text.specs.declared.Printed.the-variants.{Number}
 use Rattle.steps.specs.Running.{Running, Stepped}
 use Rattle.steps.proofs.StandLaws.{runs-after}
@@ -75,6 +80,15 @@ module _ {net : Core} {a : Arrays} {used : ℕ} {most-of places levels edges : L
         level-is = subst (λ (n : ℕ). getD levels node 0 ≡ level-of (net .plan) n) node-is (placed .level-is);
       }
 
+  -- the limit of the site, before the call is closed
+  pub limit-told : Limited (a .rooms) (most-threads * site) (getD most-of site 0)
+  limit-told = limit-fits (run .held) (node-placed run node known)
+
+  could : (limit : ℕ) → limit ≡ first (getD most-of site 0) (no-room (a .rooms) (most-threads * site)) → getD levels node 0 < limit
+      → admissible (net .plan) (net .calls) (gone .node) ≡ true
+  could limit e below =
+      ap (admissible (net .plan) (net .calls)) (sym node-is) ∙ lets-in (run .held) (node-placed run node known) limit e below
+
   module _ {b : Arrays} (closing : Held (net .plan) (closed (net .calls) ticket) b (used - 1)) where
     pub can-serve : CanServe (net .plan) (closed (net .calls) ticket) b (used - 1) site (getD most-of site 0)
     can-serve = record { held = closing; site-inside = site-listed; threads-are = node-placed run node known .threads-are }
@@ -93,3 +107,13 @@ module _ {net : Core} {a : Arrays} {used : ℕ} {most-of places levels edges : L
         (accepted-step net (return ticket) none-fails ∙ ap (serving (net .plan) cs) site-then)
         (ap Number (after .0))
         (after .1)
+
+    -- below the limit: the lowest full level stays full, and nobody is served
+    pub unserved : (limit : ℕ) → limit ≡ first (getD most-of site 0) (no-room (a .rooms) (most-threads * site)) → getD levels node 0 < limit
+        → Stepped (step net (return ticket)) b (used - 1) (Number no-ticket) most-of places levels edges
+    unserved limit e below =
+        let nobody : to-wake (net .plan) (closed (net .calls) ticket) site ≡ none =
+        ap (to-wake (net .plan) (closed (net .calls) ticket)) site-there
+        ∙ nobody-freed (net .plan) (net .calls) (run .held .firm) (run .keeps .settled) ticket gone ending (could limit e below)
+        in
+        returned (sym (ap ticket-of nobody), nobody-woken can-serve nobody)

@@ -153,7 +153,15 @@ pub fn leave<'a>(
     let level = levels[node];
     let most = threads[site as usize];
     let left = used - 1;
+    let limit = rooms::limit(rooms, Site::THREADS * site as usize, most);
     moves::close(tickets, parents, keys, nodes, rooms, used, at, site, level);
+    // The lowest full level is above this one and stays full, so that nobody may go.
+    if level < limit {
+        return Done {
+            used: left,
+            what: Printed::Number(Ticket::NONE),
+        };
+    }
     let admitted = moves::serve(tickets, parents, keys, nodes, rooms, left, site, most);
     Done {
         used: left,
