@@ -48,7 +48,7 @@ fn call_rules<'a>(
     parents: &'a [u16],
     keys: &'a [u16],
     nodes: &'a [u8],
-    edges: &'a [u8],
+    edges: &'a [u64],
 ) -> u8
     requires { ⌜ CallTested net (now tickets) (now parents) (now keys) (now nodes) (now edges) ⌝ }
     ensures { λ r. ⌜ CallRules net (now (tickets .entry)) (now (parents .entry)) (now (keys .entry)) (now (nodes .entry)) (now (edges .entry)) r ⌝ }
@@ -104,7 +104,7 @@ fn key_rules<'a>(
     parents: &'a [u16],
     keys: &mut [u16],
     nodes: &'a [u8],
-    edges: &'a [u8],
+    edges: &'a [u64],
 ) -> u8
     requires { ⌜ KeyTested net (now tickets) (now parents) (now keys) (now nodes) (now edges) ⌝ }
     ensures { λ r. ⌜ KeyRules net (now (tickets .entry)) (now (parents .entry)) (now (keys .exit)) (now (nodes .entry)) (now (edges .entry)) r ⌝ }
@@ -121,7 +121,7 @@ pub fn prepare(
     keys: &mut [u16],
     nodes: &mut [u8],
     rooms: &mut [u8],
-    edges: &[u8],
+    edges: &[u64],
 ) -> u8
     requires { ⌜ Blank net (arrays (now tickets) (now parents) (now keys) (now nodes) (now rooms)) (now edges) ⌝ }
     ensures { λ r. ⌜ Prepares net (arrays (now (tickets .exit)) (now (parents .exit)) (now (keys .exit)) (now (nodes .exit)) (now (rooms .exit))) (now (edges .entry)) r ⌝ }

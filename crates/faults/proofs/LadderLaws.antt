@@ -24,6 +24,8 @@ use Rattle.table.specs.Places.{holds, Searched}
 use Rattle.moves.specs.Held.{key-of}
 use Rattle.moves.proofs.KeyLaws.{key-active, key-waits}
 use Rattle.moves.proofs.TableLaws.{Found-at, nowhere, there, found-at, tells-table, told-there, child-is}
+use Rattle.words.specs.Words.{member}
+use Rattle.links.specs.Rows.{linked}
 use Rattle.faults.specs.Seen.{Listing, Edging, Ticketed, CallSeen, ReturnSeen}
 
 module _ {rs : List Record} {cs : List Call} {tickets : List ℕ} {used : ℕ} (seen : Ticketed rs cs tickets used) where
@@ -162,16 +164,11 @@ module _ {rs : List Record} {cs : List Call} {tickets parents keys : List ℕ} {
   unfolding has-child
   child-told r e = e ∙ child-is (seen .of-parents) (seen .calls-told .firm .few) ticket (omega (arith, apart))
 
--- the edge from a parent's node to a listed node, in the table of edges
+-- the edge from a parent's node to a listed node, in the words
 module _ {rs : List Record} {edges : List ℕ} (edging : Edging rs edges) (n m : ℕ) (from-listed : n < nodes) (to-listed : m < nodes) where
-  pub edge-there : (getD edges (nodes * n + m) 0 ≡ 0 → ⊥) → has-edge rs n m ≡ true
-  edge-there lit = sym (edging .tells n m from-listed to-listed) ∙ ap not (ne-eqb (getD edges (nodes * n + m) 0) 0 lit)
-
-  pub edge-lacking : getD edges (nodes * n + m) 0 ≡ 0 → has-edge rs n m ≡ false
-  edge-lacking dark = sym (edging .tells n m from-listed to-listed) ∙ ap not (eq-eqb (getD edges (nodes * n + m) 0) 0 dark)
-
-  pub edge-inside : nodes * n + m < length edges
-  edge-inside = omega (arith, edging .whole)
+  pub edge-told : (r : Bool) → r ≡ member (getD edges n 0) m → has-edge rs n m ≡ r
+  unfolding linked
+  edge-told r e = sym (edging .tells n m from-listed to-listed) ∙ sym e
 
 -- a listed node is below the count of nodes
 pub node-small : {rs : List Record} {places : List ℕ} → Listing rs places → (n : ℕ) → has-node rs n ≡ true → n < nodes
@@ -230,21 +227,19 @@ module _ {rs : List Record} {cs : List Call} {tickets keys open-nodes places edg
         to-small : node < nodes
         to-small = node-small (seen .listing) node node-listed
 
-        pub pair-inside : nodes * getD open-nodes at 0 + node < length edges
-        pair-inside = edge-inside (seen .edging) (getD open-nodes at 0) node from-small to-small
+        pub row-inside : getD open-nodes at 0 < length edges
+        row-inside = omega (arith, from-small, seen .edging .whole)
 
-        abbrev cell : ℕ
-        cell = getD edges (nodes * getD open-nodes at 0 + node) 0
+        edge-from : (r : Bool) → r ≡ member (getD edges (getD open-nodes at 0) 0) node → has-edge rs (p .who .node) node ≡ r
+        edge-from r e =
+            ap (λ (n : ℕ). has-edge rs n node) (sym (p .node-told)) ∙ edge-told (seen .edging) (getD open-nodes at 0) node from-small to-small r e
 
-        pub no-edge : cell ≡ 0 → 25 ≡ fault (net rs cs) (call parent ticket node)
-        no-edge dark =
-            call-25 rs cs ticket apart (p .fresh) parent node (p .who) (p .found) runs node-listed
-            (ap (λ (n : ℕ). has-edge rs n node) (sym (p .node-told)) ∙ edge-lacking (seen .edging) (getD open-nodes at 0) node from-small to-small dark)
+        pub no-edge : false ≡ member (getD edges (getD open-nodes at 0) 0) node → 25 ≡ fault (net rs cs) (call parent ticket node)
+        no-edge e = call-25 rs cs ticket apart (p .fresh) parent node (p .who) (p .found) runs node-listed (edge-from false e)
 
-        module _ (lit : cell ≡ 0 → ⊥) where
+        module _ (in-row : true ≡ member (getD edges (getD open-nodes at 0) 0) node) where
           edge-is : has-edge rs (p .who .node) node ≡ true
-          edge-is =
-              ap (λ (n : ℕ). has-edge rs n node) (sym (p .node-told)) ∙ edge-there (seen .edging) (getD open-nodes at 0) node from-small to-small lit
+          edge-is = edge-from true in-row
 
           pub table-full : used ≡ most-open → 26 ≡ fault (net rs cs) (call parent ticket node)
           table-full e =

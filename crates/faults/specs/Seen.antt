@@ -13,6 +13,7 @@ use Rattle.model.specs.Net.{Call, has-node, has}
 use Rattle.model.specs.Steady.{Firm}
 use Rattle.model.specs.Command.{start, call, return, fault}
 use Rattle.record.specs.Step.{listed-node}
+use Rattle.links.specs.Rows.{RowsTell}
 use Rattle.moves.specs.Held.{Tells, ticket-number, parent-number, node-number, key-of}
 
 -- the lent sites of the nodes tell which nodes have a record
@@ -20,10 +21,10 @@ pub record Listing (rs : List Record) (places : List ℕ) : Type 0 where
   pub whole : length places ≡ nodes
   pub tells : (n : ℕ) → listed-node places n ≡ has-node rs n
 
--- the lent table has a byte for each pair of nodes, lit where it is an edge
+-- the lent words say for each node whom it may call
 pub record Edging (rs : List Record) (edges : List ℕ) : Type 0 where
-  pub whole : length edges ≡ nodes * nodes
-  pub tells : (n m : ℕ) → n < nodes → m < nodes → not (eqb (getD edges (nodes * n + m) 0) 0) ≡ has-edge rs n m
+  pub whole : length edges ≡ nodes
+  pub tells : RowsTell edges (has-edge rs)
 
 -- the tickets of the open calls
 pub record Ticketed (rs : List Record) (cs : List Call) (tickets : List ℕ) (used : ℕ) : Type 0 where

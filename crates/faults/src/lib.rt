@@ -46,7 +46,7 @@ pub fn call_fault<'a>(
     open_nodes: &'a [u8],
     used: usize,
     places: &'a [u8],
-    edges: &'a [u8],
+    edges: &'a [u64],
     parent: u16,
     ticket: u16,
     node: u8,
@@ -73,7 +73,7 @@ pub fn call_fault<'a>(
     if !record::has_node(places, Node(node)) {
         return 22;
     }
-    if edges[Node::COUNT * open_nodes[at] as usize + node as usize] == 0 {
+    if !words::has(edges[open_nodes[at] as usize], node) {
         return 25;
     }
     if used == Ticket::OPEN {

@@ -1,4 +1,4 @@
--- A parent is found by its ticket; its key says whether it is active, and the table of edges whether its node may call the child's. Assumes nothing.
+-- A parent is found by its ticket; its key says whether it is active, and the words of the edges whether its node may call the child's. Assumes nothing.
 use Prim.Native.Nat.{ℕ, _+_, _*_, _≤_, _<_}
 use native.Mathlib.Omega.{arith}
 use mathlib.Core.Path.{_≡_, refl, sym, ap, subst, _∙_}
@@ -20,6 +20,8 @@ use Rattle.table.specs.Places.{holds, Searched}
 use Rattle.moves.specs.Held.{parent-number, node-number, key-of}
 use Rattle.moves.proofs.KeyLaws.{nobody, key-active, key-waits}
 use Rattle.moves.proofs.TableLaws.{Found-at, nowhere, there, found-at, tells-table, told-there}
+use Rattle.words.specs.Words.{member}
+use Rattle.links.specs.Rows.{linked}
 use Rattle.rules.specs.Rules.{ParentSeen, AllParentsSeen}
 use Rattle.rules.proofs.CallLaws.{place-inside}
 
@@ -83,12 +85,14 @@ module _ {rs : List Record} {cs : List Call} {tickets keys open-nodes : List ℕ
     parent-waits lit =
         sym (kept-is ∙ ap (λ (b : Bool). b && has-edge rs (p .who .node) node) (key-waits rs (p .who) (λ e. lit (p .key-told ∙ e))))
 
-    pub edge-inside : nodes * getD open-nodes at 0 + node < length edges
-    edge-inside = omega (arith, p .node-told, p .node-small, ok .node-inside, ok .seen .edging .whole)
+    pub row-inside : getD open-nodes at 0 < length edges
+    row-inside = omega (arith, p .node-told, p .node-small, ok .seen .edging .whole)
 
-    pub parent-edge : getD keys at 0 ≡ 0 → not (eqb (getD edges (nodes * getD open-nodes at 0 + node) 0) 0) ≡ Kept rs cs parent node
-    parent-edge dark =
-        ap (λ (n : ℕ). not (eqb (getD edges (nodes * n + node) 0) 0)) (p .node-told)
+    pub parent-edge : getD keys at 0 ≡ 0 → (r : Bool) → r ≡ member (getD edges (getD open-nodes at 0) 0) node → r ≡ Kept rs cs parent node
+    unfolding linked
+    parent-edge dark r e =
+        e
+        ∙ ap (λ (n : ℕ). member (getD edges n 0) node) (p .node-told)
         ∙ ok .seen .edging .tells (p .who .node) node (p .node-small) (ok .node-inside)
         ∙ sym (kept-is ∙ ap (λ (b : Bool). b && has-edge rs (p .who .node) node) (key-active rs (p .who) (sym (p .key-told) ∙ dark)))
 

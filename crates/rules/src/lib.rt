@@ -40,7 +40,7 @@ fn parent_kept<'a>(
     keys: &'a [u16],
     nodes: &'a [u8],
     used: usize,
-    edges: &'a [u8],
+    edges: &'a [u64],
     parent: u16,
     node: u8,
 ) -> bool
@@ -57,7 +57,7 @@ fn parent_kept<'a>(
     if keys[at] != 0 {
         return false;
     }
-    edges[Node::COUNT * nodes[at] as usize + node as usize] != 0
+    words::has(edges[nodes[at] as usize], node)
 }
 
 // Every parent is open and active, with the edge in the plan.
@@ -67,7 +67,7 @@ pub fn parents_kept<'a>(
     keys: &'a [u16],
     nodes: &'a [u8],
     used: usize,
-    edges: &'a [u8],
+    edges: &'a [u64],
 ) -> bool
     requires { ⌜ ParentsTested (now tickets) (now parents) (now keys) (now nodes) used (now edges) ⌝ }
     ensures { λ r. ⌜ ParentsTest (now (tickets .entry)) (now (parents .entry)) (now (keys .entry)) (now (nodes .entry)) used (now (edges .entry)) r ⌝ }

@@ -53,7 +53,7 @@ pub fn run<'a>(
     threads: &'a [u8],
     places: &'a [u8],
     levels: &'a [u8],
-    edges: &'a [u8],
+    edges: &'a [u64],
     bytes: &'a [u8],
     from: usize,
     text: &mut [u8],

@@ -44,7 +44,7 @@ fn answer<'a>(
     threads: &'a [u8],
     places: &'a [u8],
     levels: &'a [u8],
-    edges: &'a [u8],
+    edges: &'a [u64],
     request: Request,
 ) -> Done
     requires { ⌜ Answerable (arrays (now tickets) (now parents) (now keys) (now nodes) (now rooms)) used (now threads) (now places) (now levels) (now edges) ⌝ }
@@ -117,7 +117,7 @@ pub fn turn<'a>(
     threads: &'a [u8],
     places: &'a [u8],
     levels: &'a [u8],
-    edges: &'a [u8],
+    edges: &'a [u64],
     text: &mut [u8],
     at: usize,
     request: Request,

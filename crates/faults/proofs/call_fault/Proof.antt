@@ -1,6 +1,6 @@
 -- `faults::call_fault` meets its contract: each way out is a rung of the ladder of a call's tests. Assumes nothing.
 use native.Mathlib.Omega.{arith}
-use mathlib.Core.Path.{_≡_, ap, _∙_}
+use mathlib.Core.Path.{_≡_, sym, ap, _∙_}
 use mathlib.Core.List.{List}
 use Rattle.lists.proofs.CountLaws.{denied, granted}
 use Rattle.ids.specs.Limits.{no-ticket}
@@ -8,7 +8,7 @@ use Rattle.model.specs.Plan.{Record}
 use Rattle.model.specs.Net.{Call, lookup}
 use Rattle.faults.specs.Seen.{CallSeen}
 use Rattle.faults.proofs.LadderLaws.{find-fits, nobody-0, not-there, is-there, call-20, call-21, call-23}
-use Rattle.faults.proofs.LadderLaws.{Parented, parented, waiting-parent, node-lacking, pair-inside, no-edge, table-full, call-passes}
+use Rattle.faults.proofs.LadderLaws.{Parented, parented, waiting-parent, node-lacking, row-inside, no-edge, table-full, call-passes}
 use borrow.Author.Needs.{needs}
 use Rattle.faults.proofs.call_fault.Statement.{statement}
 use Rattle.faults.proofs.call_fault.Tie as tie
@@ -89,61 +89,60 @@ returns-6 c =
 abbrev behind : tie.Else6 → tie.Else4
 behind c = let at-node = c .before in at-node .before .before .before
 
-shared-slice-read-if7 : tie.Need-shared-slice-read-if7
-shared-slice-read-if7 c =
+shared-slice-read-has : tie.Need-shared-slice-read-has
+shared-slice-read-has c =
     let at-parent = behind (c .before) in
     let seen = start (at-parent .before) .pre .2 in
     omega (arith, parent at-parent _ _ seen .inside, seen .of-nodes .whole)
 
-shared-slice-read-if7-2 : tie.Need-shared-slice-read-if7-2
-shared-slice-read-if7-2 c =
+-- a node of an open call is a byte
+cast-has : tie.Need-cast-has
+cast-has c = omega (arith, c .shared-slice-known7 .given (behind (c .before) .before .find2 .result))
+
+mul-has : tie.Need-mul-has
+mul-has c = omega (arith, c .shared-slice-known7 .given (behind (c .before) .before .find2 .result))
+
+shared-slice-read-has-2 : tie.Need-shared-slice-read-has-2
+shared-slice-read-has-2 c =
     let at-node = c .before .before .before in
     let at-parent = behind (c .before .before) in
     let seen = start (at-parent .before) .pre .2 in
-    pair-inside seen _ (some-ticket at-parent) (parent at-parent _ _ seen) (at-node .before .if5 .left)
+    row-inside seen _ (some-ticket at-parent) (parent at-parent _ _ seen) (at-node .before .if5 .left)
     (granted _ _ (at-node .has-node .ensures) (c .before .before .if6 .left))
+
+-- behind the node's record, seen from behind the test of the edge
+abbrev listed : tie.After-has → tie.Else6
+listed c = c .before .before .before
 
 returns-7 : tie.Need-returns-7
 returns-7 c =
-    let at-listed = c .before .before .before in
-    let at-node = at-listed .before in
-    let at-parent = behind at-listed in
+    let at-edge = c .before in
+    let at-node = listed at-edge .before in
+    let at-parent = behind (listed at-edge) in
     λ rs cs seen.
     no-edge seen _ (some-ticket at-parent) (parent at-parent rs cs seen) (at-node .before .if5 .left)
-    (granted _ _ (at-node .has-node .ensures) (at-listed .if6 .left))
-    (c .if7 .taken)
+    (granted _ _ (at-node .has-node .ensures) (listed at-edge .if6 .left))
+    (sym (denied _ _ (at-edge .has .ensures) (c .if7 .taken)))
 
 returns-8 : tie.Need-returns-8
 returns-8 c =
-    let at-edge = c .before in
-    let at-listed = at-edge .before .before .before in
-    let at-node = at-listed .before in
-    let at-parent = behind at-listed in
+    let at-edge = c .before .before in
+    let at-node = listed at-edge .before in
+    let at-parent = behind (listed at-edge) in
     λ rs cs seen.
     table-full seen _ (some-ticket at-parent) (parent at-parent rs cs seen) (at-node .before .if5 .left)
-    (granted _ _ (at-node .has-node .ensures) (at-listed .if6 .left))
-    (at-edge .if7 .left) (c .if8 .taken)
+    (granted _ _ (at-node .has-node .ensures) (listed at-edge .if6 .left))
+    (sym (granted _ _ (at-edge .has .ensures) (c .before .if7 .left))) (c .if8 .taken)
 
 returns-9 : tie.Need-returns-9
 returns-9 c =
-    let at-edge = c .before in
-    let at-listed = at-edge .before .before .before in
-    let at-node = at-listed .before in
-    let at-parent = behind at-listed in
+    let at-edge = c .before .before in
+    let at-node = listed at-edge .before in
+    let at-parent = behind (listed at-edge) in
     λ rs cs seen.
     call-passes seen _ (some-ticket at-parent) (parent at-parent rs cs seen) (at-node .before .if5 .left)
-    (granted _ _ (at-node .has-node .ensures) (at-listed .if6 .left))
-    (at-edge .if7 .left) (c .if8 .left)
-
--- a node of an open call is a byte
-cast-if7 : tie.Need-cast-if7
-cast-if7 c = omega (arith, c .shared-slice-known7 .given (behind (c .before) .before .find2 .result))
-
-mul-if7 : tie.Need-mul-if7
-mul-if7 c = omega (arith, c .shared-slice-known7 .given (behind (c .before) .before .find2 .result))
-
-add-if7 : tie.Need-add-if7
-add-if7 c = omega (arith, c .shared-slice-known7 .given (behind (c .before) .before .find2 .result))
+    (granted _ _ (at-node .has-node .ensures) (listed at-edge .if6 .left))
+    (sym (granted _ _ (at-edge .has .ensures) (c .before .if7 .left))) (c .if8 .left)
 
 pub call-fault-spec : {M : Type 1} → statement M
 call-fault-spec =
@@ -160,11 +159,11 @@ call-fault-spec =
     returns-5
     (λ c κs. search needs)
     returns-6
-    shared-slice-read-if7
-    cast-if7
-    mul-if7
-    add-if7
-    shared-slice-read-if7-2
+    shared-slice-read-has
+    cast-has
+    mul-has
+    shared-slice-read-has-2
+    (λ c κs. search needs)
     returns-7
     returns-8
     returns-9)

@@ -1,6 +1,9 @@
--- `rules::parent_kept` meets its contract: no parent, nobody found, a parent that waits, or what the table of edges says. Assumes nothing.
+-- `rules::parent_kept` meets its contract: no parent, nobody found, a parent that waits, or what the words of the edges say. Assumes nothing.
 use native.Mathlib.Omega.{arith}
-use Rattle.rules.proofs.ParentLaws.{none-kept, parent-fits, Parent, parent-lacks, parent-there, parent-waits, edge-inside, parent-edge}
+use Rattle.rules.proofs.ParentLaws.{none-kept, parent-fits, Parent, parent-lacks, parent-there, parent-waits, row-inside, parent-edge}
+use Rattle.rules.proofs.parent_kept.Statement.{statement}
+use Rattle.rules.proofs.parent_kept.Tie as tie
+use borrow.Author.Needs.{needs}
 use Rattle.rules.proofs.parent_kept.Statement.{statement}
 use Rattle.rules.proofs.parent_kept.Tie as tie
 
@@ -37,36 +40,31 @@ returns-3 c =
     let apart = at-find .before .if1 .left in
     parent-waits ok apart _ (parent-there ok apart _ (at-find .find .ensures) (none-2 .if2 .left)) (c .if3 .taken)
 
-shared-slice-read-result : tie.Need-shared-slice-read-result
-shared-slice-read-result c =
+shared-slice-read-has : tie.Need-shared-slice-read-has
+shared-slice-read-has c =
     let none-2 = c .before .before .before in
     omega (arith, found none-2 .at-inside, start (none-2 .before) .pre .2 .seen .of-nodes .whole)
 
-cast-result : tie.Need-cast-result
-cast-result c = omega (arith, c .shared-slice-known6 .given (c .before .before .before .before .find .result))
+cast-has : tie.Need-cast-has
+cast-has c = omega (arith, c .shared-slice-known6 .given (c .before .before .before .before .find .result))
 
-mul-result : tie.Need-mul-result
-mul-result c = omega (arith, c .shared-slice-known6 .given (c .before .before .before .before .find .result))
+mul-has : tie.Need-mul-has
+mul-has c = omega (arith, c .shared-slice-known6 .given (c .before .before .before .before .find .result))
 
-add-result : tie.Need-add-result
-add-result c =
-    let at-find = c .before .before .before .before in
-    omega (arith, c .shared-slice-known6 .given (at-find .find .result), start at-find .pre .2 .node-inside)
-
-shared-slice-read-result-2 : tie.Need-shared-slice-read-result-2
-shared-slice-read-result-2 c =
+shared-slice-read-has-2 : tie.Need-shared-slice-read-has-2
+shared-slice-read-has-2 c =
     let none-2 = c .before .before .before .before in
     let at-find = none-2 .before in
-    edge-inside (start at-find .pre .2) (at-find .before .if1 .left) (at-find .find .result) (found none-2)
+    row-inside (start at-find .pre .2) (at-find .before .if1 .left) (at-find .find .result) (found none-2)
 
 returns-4 : tie.Need-returns-4
 returns-4 c =
-    let runs = c .before .before in
+    let runs = c .before .before .before in
     let none-2 = runs .before .before in
     let at-find = none-2 .before in
     λ rs cs ok.
     let apart = at-find .before .if1 .left in
-    parent-edge ok apart _ (parent-there ok apart _ (at-find .find .ensures) (none-2 .if2 .left)) (runs .if3 .left)
+    parent-edge ok apart _ (parent-there ok apart _ (at-find .find .ensures) (none-2 .if2 .left)) (runs .if3 .left) _ (c .has .ensures)
 
 pub parent-kept-spec : {M : Type 1} → statement M
 parent-kept-spec =
@@ -78,9 +76,9 @@ parent-kept-spec =
     mul-if3
     shared-slice-read-if3
     returns-3
-    shared-slice-read-result
-    cast-result
-    mul-result
-    add-result
-    shared-slice-read-result-2
+    shared-slice-read-has
+    cast-has
+    mul-has
+    shared-slice-read-has-2
+    (λ c κs. search needs)
     returns-4)
