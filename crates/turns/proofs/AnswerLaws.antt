@@ -6,14 +6,15 @@ use mathlib.Core.List.{List}
 use Rattle.ids.specs.Limits.{no-ticket}
 use Rattle.model.specs.Net.{Core}
 use Rattle.model.specs.Command.{start, call, return, step, ask, room-at}
-use Rattle.model.specs.Transcript.{after}
+use Rattle.model.specs.Transcript.{line, after}
 use Rattle.moves.specs.Held.{Arrays}
 use Rattle.text.specs.declared.Printed.{Printed}
 use Rattle.text.specs.Lines.{of-standing, of-room}
 use Rattle.text.proofs.LineLaws.{start-line, call-line, return-line, ask-line, room-line}
 use Rattle.decode.specs.declared.Request.{Request}
 use Rattle.steps.specs.Running.{Running, CanEnter, Stepped}
-use Rattle.turns.specs.Turn.{Answered}
+use Rattle.decode.specs.Asked.{asked}
+use Rattle.turns.specs.Turn.{request-line, answer-to, Answered}
 
 module _ {net : Core} {a : Arrays} {used : ℕ} {most-of places levels edges : List ℕ} (run : Running net a used most-of places levels edges) where
   pub may-start : CanEnter net a used most-of places levels edges false no-ticket
@@ -30,25 +31,37 @@ module _ (net : Core) {b : Arrays} {used : ℕ} {what : Printed} {most-of places
   pub started : {q : Request} (ticket node : ℕ) → q ≡ Request.Start ticket node
       → Stepped (step net (start ticket node)) b used what most-of places levels edges → Answered net q b used what most-of places levels edges
   unfolding after
-  started ticket node e s = known-as e (record { line-is = start-line net ticket node what (sym (s .says)); runs-on = s .runs-on })
+  started ticket node e s = known-as e (record { says = s .says; runs-on = s .runs-on })
 
   pub called : {q : Request} (parent ticket node : ℕ) → q ≡ Request.Call parent ticket node
       → Stepped (step net (call parent ticket node)) b used what most-of places levels edges → Answered net q b used what most-of places levels edges
   unfolding after
-  called parent ticket node e s = known-as e (record { line-is = call-line net parent ticket node what (sym (s .says)); runs-on = s .runs-on })
+  called parent ticket node e s = known-as e (record { says = s .says; runs-on = s .runs-on })
 
   pub returned : {q : Request} (ticket : ℕ) → q ≡ Request.Return ticket
       → Stepped (step net (return ticket)) b used what most-of places levels edges → Answered net q b used what most-of places levels edges
   unfolding after
-  returned ticket e s = known-as e (record { line-is = return-line net ticket what (sym (s .says)); runs-on = s .runs-on })
+  returned ticket e s = known-as e (record { says = s .says; runs-on = s .runs-on })
 
   module _ (run : Running net b used most-of places levels edges) where
     pub asked-standing : {q : Request} (ticket : ℕ) → q ≡ Request.Ask ticket → what ≡ of-standing (ask net ticket)
         → Answered net q b used what most-of places levels edges
     unfolding after
-    asked-standing ticket e says = known-as e (record { line-is = ask-line net ticket what (sym says); runs-on = run })
+    asked-standing ticket e says = known-as e (record { says = says; runs-on = run })
 
     pub asked-room : {q : Request} (s k : ℕ) → q ≡ Request.Room s k → what ≡ of-room (room-at net s k)
         → Answered net q b used what most-of places levels edges
     unfolding after
-    asked-room s k e says = known-as e (record { line-is = room-line net s k what (sym says); runs-on = run })
+    asked-room s k e says = known-as e (record { says = says; runs-on = run })
+
+-- the line that is printed of an answer is the request's
+line-is : (net : Core) (q : Request) (what : Printed) → what ≡ answer-to net (asked q) → line net (asked q) ≡ request-line q what
+line-is net (Request.Start ticket node) what e = start-line net ticket node what (sym e)
+line-is net (Request.Call parent ticket node) what e = call-line net parent ticket node what (sym e)
+line-is net (Request.Return ticket) what e = return-line net ticket what (sym e)
+line-is net (Request.Ask ticket) what e = ask-line net ticket what (sym e)
+line-is net (Request.Room s k) what e = room-line net s k what (sym e)
+
+pub line-said : {net : Core} {q : Request} {b : Arrays} {used : ℕ} {what : Printed} {most-of places levels edges : List ℕ}
+    → Answered net q b used what most-of places levels edges → line net (asked q) ≡ request-line q what
+line-said {net} {q} {b} {used} {what} h = line-is net q what (h .says)

@@ -5,10 +5,12 @@ use mathlib.Core.Path.{_≡_}
 use mathlib.Core.List.{List}
 use Rattle.model.specs.Net.{Core}
 use Rattle.model.specs.Text.{Text}
-use Rattle.model.specs.Transcript.{line, after}
+use Rattle.model.specs.Command.{step, ask, room-at}
+use Rattle.model.specs.Transcript as transcript
+use Rattle.model.specs.Transcript.{command, question, room-question, line, after}
 use Rattle.moves.specs.Held.{Arrays}
 use Rattle.text.specs.declared.Printed.{Printed}
-use Rattle.text.specs.Lines.{line-text, line2-text}
+use Rattle.text.specs.Lines.{of-answer, of-standing, of-room, line-text, line2-text}
 use Rattle.text.specs.Put.{Put}
 use Rattle.decode.specs.Asked.{asked}
 use Rattle.decode.specs.declared.Request.{Request}
@@ -27,9 +29,15 @@ request-line (Request.Room site level) what = line2-text 77 site level what
 abbrev pub Answerable : Arrays → ℕ → List ℕ → List ℕ → List ℕ → List ℕ → Type 0
 Answerable a used most-of places levels edges = (net : Core) × Running net a used most-of places levels edges
 
+-- what is printed of the model's answer to a request
+abbrev pub answer-to : Core → transcript.Request → Printed
+answer-to net (command c) = of-answer (step net c .answer)
+answer-to net (question ticket) = of-standing (ask net ticket)
+answer-to net (room-question s k) = of-room (room-at net s k)
+
 -- what a request answers and what it leaves
 pub record Answered (net : Core) (request : Request) (b : Arrays) (used : ℕ) (what : Printed) (most-of places levels edges : List ℕ) : Type 0 where
-  pub line-is : line net (asked request) ≡ request-line request what
+  pub says : what ≡ answer-to net (asked request)
   pub runs-on : Running (after net (asked request)) b used most-of places levels edges
 
 abbrev pub Answers : Arrays → Arrays → ℕ → ℕ → Printed → List ℕ → List ℕ → List ℕ → List ℕ → Request → Type 0

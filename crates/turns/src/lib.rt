@@ -34,7 +34,7 @@ fn print(text: &mut [u8], at: usize, request: Request, what: Printed) -> usize
 }
 
 // The answer, and the arrays left holding the net after it.
-fn answer<'a>(
+pub fn answer<'a>(
     tickets: &mut [u16],
     parents: &mut [u16],
     keys: &mut [u16],

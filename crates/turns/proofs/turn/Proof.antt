@@ -1,6 +1,7 @@
 -- `turns::turn` meets its contract: the line that is printed is the line of the request's answer. Assumes nothing.
 use mathlib.Core.Path.{sym}
 use Rattle.text.proofs.PutLaws.{put-as}
+use Rattle.turns.proofs.AnswerLaws.{line-said}
 use borrow.Author.Needs.{needs}
 use Rattle.turns.proofs.turn.Statement.{statement}
 use Rattle.turns.proofs.turn.Tie as tie
@@ -19,7 +20,7 @@ returns c =
     let printed = c .before .before in
     λ net run.
     let said = answering printed .answer .ensures net run in
-    record { runs-on = said .runs-on; written = put-as (sym (said .line-is)) (printed .print .ensures) }
+    record { runs-on = said .runs-on; written = put-as (sym (line-said said)) (printed .print .ensures) }
 
 pub turn-spec : {M : Type 1} → statement M
 turn-spec =
