@@ -1,12 +1,12 @@
 // The bench program of document 01: a plan and then commands from standard input, of any length, and a line for each. What has come is answered before more is
-// read, so that a console behind a pipe has its line at once. Everything that decides anything is `plan`'s and `net`'s.
+// read, so that a console behind a pipe has its line at once. Everything that decides anything is `plan`'s, `net`'s and `transcript`'s.
 use ids::Node;
 use ids::Site;
 use model::Plan;
 use model::PlanRead;
 use model::PlanRefusal;
 use model::ReadAnswer;
-use net::Halt;
+use transcript::Halt;
 use value::Net;
 ghost use Prim.Native.Nat.{_+_, _≤_};
 ghost use mathlib.Core.Path.{_≡_};
@@ -245,7 +245,7 @@ fn turn(stand: Stand, input: &mut [u8], text: &mut [u8]) -> Stand
     if input.len() < have {
         return over(stand.net);
     }
-    let ran = net::run(stand.net, &input[..have], stand.at, text);
+    let ran = transcript::run(stand.net, &input[..have], stand.at, text);
     let net = ran.net;
     let at = ran.at;
     if !write(text, ran.to) {

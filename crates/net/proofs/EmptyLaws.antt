@@ -25,7 +25,7 @@ use Rattle.value.specs.Handed.{call-at, table-of, count-at, counts-table, value
 use Rattle.value.specs.declared.Call.{Call as CallValue}
 use Rattle.value.specs.declared.Net.{Net}
 use Rattle.value.specs.declared.MadeNet.{MadeNet}
-use Rattle.net.proofs.FreshLaws.{zero-at}
+use Rattle.entry.proofs.FreshLaws.{zero-at}
 
 no-calls : replicate most-open spare ≡ table-of []
 unfolding table-of call-at tell passes-at

@@ -1,3 +1,2 @@
 pub mod Public
-pub mod Ran
 pub mod Demands

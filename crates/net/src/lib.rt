@@ -1,22 +1,18 @@
 // The net by value: anybody's net may be handed in, and every function answers. A net that breaks a rule is refused with 19 before all else and handed back as it
 // came, and so is the net of a refused command.
 ghost use mathlib.Core.Path.{_≡_};
-ghost use mathlib.Core.Bool.{true, false};
 ghost use mathlib.Core.List.{[]};
-ghost use Rattle.ids.specs.Limits.{no-ticket};
 ghost use Rattle.model.specs.Command.{start, call, return};
-ghost use Rattle.steps.specs.Running.{entering};
 ghost use Rattle.value.specs.View.{broken};
 ghost use Rattle.value.specs.Handed.{value-of, command-answered, ask-answered, room-answered, make-answered};
-ghost use Rattle.net.specs.Public.{MakeRefusal, RoomTold};
-ghost use Rattle.net.specs.Ran.{halt-of, NetRuns};
+ghost use Rattle.net.specs.Public.{MakeRefusal, CommandAsked, CommandTold, RoomTold};
+use decode::Request;
 use ids::Level;
 use ids::Node;
 use ids::Site;
 use ids::Ticket;
 use model::Plan;
 use record::Checked;
-use runs::Stop;
 use text::Printed;
 use value::AskAnswer;
 use value::Call;
@@ -25,29 +21,6 @@ use value::Commanded;
 use value::MadeNet;
 use value::Net;
 use value::NetRoom;
-
-// Why a run stopped.
-pub enum Halt {
-    // The text has less room than a line may take.
-    Full,
-    // The bytes end where a command is due.
-    End,
-    // Or inside one.
-    Cut,
-    // No command has this kind.
-    Unknown,
-    // The net breaks a rule, and nothing was read: refusal 19.
-    Broken,
-}
-
-// The net behind a run, the places behind what was read and what was written, and how many commands were answered.
-pub struct NetRan {
-    pub net: Net,
-    pub at: usize,
-    pub to: usize,
-    pub commands: usize,
-    pub why: Halt,
-}
 
 // A net that breaks a rule.
 const BROKEN: u8 = 19;
@@ -106,7 +79,7 @@ pub fn check(net: Net) -> u8
     let mut nodes = [0; Ticket::OPEN];
     let mut rooms = [255; Site::COUNT * Site::THREADS];
     let plan = net.plan;
-    let edges = cycles::call_table(plan).cells;
+    let edges = links::call_rows(plan).rows;
     entry::prepare(
         net,
         &mut tickets,
@@ -118,10 +91,10 @@ pub fn check(net: Net) -> u8
     )
 }
 
-// A start or a call, which alone has a parent.
-fn enter(net: Net, called: bool, parent: u16, ticket: u16, node: u8) -> Commanded
-    requires { ⌜ (called ≡ false → parent ≡ no-ticket) ⌝ }
-    ensures { λ r. ⌜ r ≡ command-answered net (entering called parent ticket node) ⌝ }
+// A start, a call or a return, by its request.
+fn command(net: Net, request: Request) -> Commanded
+    requires { ⌜ CommandAsked request ⌝ }
+    ensures { λ r. ⌜ CommandTold net request r ⌝ }
 {
     let mut tickets = [0; Ticket::OPEN];
     let mut parents = [0; Ticket::OPEN];
@@ -129,7 +102,7 @@ fn enter(net: Net, called: bool, parent: u16, ticket: u16, node: u8) -> Commande
     let mut nodes = [0; Ticket::OPEN];
     let mut rooms = [255; Site::COUNT * Site::THREADS];
     let plan = net.plan;
-    let edges = cycles::call_table(plan).cells;
+    let edges = links::call_rows(plan).rows;
     let broken = entry::prepare(
         net,
         &mut tickets,
@@ -148,7 +121,7 @@ fn enter(net: Net, called: bool, parent: u16, ticket: u16, node: u8) -> Commande
     let threads = plan.threads;
     let places = plan.places;
     let levels = plan.levels;
-    let done = steps::enter(
+    let done = turns::answer(
         &mut tickets,
         &mut parents,
         &mut keys,
@@ -159,10 +132,7 @@ fn enter(net: Net, called: bool, parent: u16, ticket: u16, node: u8) -> Commande
         &places,
         &levels,
         &edges,
-        called,
-        parent,
-        ticket,
-        node,
+        request,
     );
     let what = done.what;
     pack::handed(net, what, &tickets, &parents, &keys, &nodes, done.used)
@@ -172,59 +142,21 @@ fn enter(net: Net, called: bool, parent: u16, ticket: u16, node: u8) -> Commande
 pub fn start(net: Net, ticket: Ticket, node: Node) -> Commanded
     ensures { λ r. ⌜ r ≡ command-answered net (start (ticket .0) (node .0)) ⌝ }
 {
-    enter(net, false, Ticket::NONE, ticket.0, node.0)
+    command(net, Request::Start(ticket.0, node.0))
 }
 
 // A call: 20, 21, 23, 24, 22, 25, 26.
 pub fn call(net: Net, parent: Ticket, ticket: Ticket, node: Node) -> Commanded
     ensures { λ r. ⌜ r ≡ command-answered net (call (parent .0) (ticket .0) (node .0)) ⌝ }
 {
-    enter(net, true, parent.0, ticket.0, node.0)
+    command(net, Request::Call(parent.0, ticket.0, node.0))
 }
 
 // A return: 27, 28, 29. (`return` is a word of the language.)
 pub fn finish(net: Net, ticket: Ticket) -> Commanded
     ensures { λ r. ⌜ r ≡ command-answered net (return (ticket .0)) ⌝ }
 {
-    let mut tickets = [0; Ticket::OPEN];
-    let mut parents = [0; Ticket::OPEN];
-    let mut keys = [0; Ticket::OPEN];
-    let mut nodes = [0; Ticket::OPEN];
-    let mut rooms = [255; Site::COUNT * Site::THREADS];
-    let plan = net.plan;
-    let edges = cycles::call_table(plan).cells;
-    let broken = entry::prepare(
-        net,
-        &mut tickets,
-        &mut parents,
-        &mut keys,
-        &mut nodes,
-        &mut rooms,
-        &edges,
-    );
-    if broken != 0 {
-        return Commanded {
-            answer: CommandAnswer::Refused(BROKEN),
-            net,
-        };
-    }
-    let threads = plan.threads;
-    let places = plan.places;
-    let levels = plan.levels;
-    let done = steps::leave(
-        &mut tickets,
-        &mut parents,
-        &mut keys,
-        &mut nodes,
-        &mut rooms,
-        net.used,
-        &threads,
-        &places,
-        &levels,
-        ticket.0,
-    );
-    let what = done.what;
-    pack::handed(net, what, &tickets, &parents, &keys, &nodes, done.used)
+    command(net, Request::Return(ticket.0))
 }
 
 // Whether a ticket's call is active, waits or is not open.
@@ -267,7 +199,7 @@ pub fn room(net: Net, site: Site, level: Level) -> NetRoom
     let mut nodes = [0; Ticket::OPEN];
     let mut rooms = [255; Site::COUNT * Site::THREADS];
     let plan = net.plan;
-    let edges = cycles::call_table(plan).cells;
+    let edges = links::call_rows(plan).rows;
     let broken = entry::prepare(
         net,
         &mut tickets,
@@ -282,72 +214,4 @@ pub fn room(net: Net, site: Site, level: Level) -> NetRoom
     }
     let threads = plan.threads;
     room_of(steps::room(&rooms, &threads, site.0, level.0))
-}
-
-fn reason(why: Stop) -> Halt
-    ensures { λ r. ⌜ r ≡ halt-of why ⌝ }
-{
-    match why {
-        Stop::Full => Halt::Full,
-        Stop::End => Halt::End,
-        Stop::Cut => Halt::Cut,
-        Stop::Unknown => Halt::Unknown,
-    }
-}
-
-// A run: the rules tested once, and then every whole command from a place on answered and its line written, from the first byte of the text on.
-pub fn run(net: Net, bytes: &[u8], from: usize, text: &mut [u8]) -> NetRan
-    ensures { λ r. ⌜ NetRuns net (now (bytes .entry)) from (now (text .entry)) (now (text .exit)) r ⌝ }
-{
-    let mut tickets = [0; Ticket::OPEN];
-    let mut parents = [0; Ticket::OPEN];
-    let mut keys = [0; Ticket::OPEN];
-    let mut nodes = [0; Ticket::OPEN];
-    let mut rooms = [255; Site::COUNT * Site::THREADS];
-    let plan = net.plan;
-    let edges = cycles::call_table(plan).cells;
-    let broken = entry::prepare(
-        net,
-        &mut tickets,
-        &mut parents,
-        &mut keys,
-        &mut nodes,
-        &mut rooms,
-        &edges,
-    );
-    if broken != 0 {
-        return NetRan {
-            net,
-            at: from,
-            to: 0,
-            commands: 0,
-            why: Halt::Broken,
-        };
-    }
-    let threads = plan.threads;
-    let places = plan.places;
-    let levels = plan.levels;
-    let ran = runs::run(
-        &mut tickets,
-        &mut parents,
-        &mut keys,
-        &mut nodes,
-        &mut rooms,
-        net.used,
-        &threads,
-        &places,
-        &levels,
-        &edges,
-        bytes,
-        from,
-        text,
-    );
-    let stop = ran.why;
-    NetRan {
-        net: pack::packed(plan, &tickets, &parents, &keys, &nodes, ran.used),
-        at: ran.at,
-        to: ran.to,
-        commands: ran.commands,
-        why: reason(stop),
-    }
 }

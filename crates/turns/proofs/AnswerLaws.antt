@@ -1,12 +1,13 @@
 -- What each request answers and leaves is what the run's line and the net after it say: a question leaves the net as it was. Assumes nothing.
 use Prim.Native.Nat.{ℕ}
-use mathlib.Core.Path.{_≡_, refl, sym}
+use mathlib.Core.Path.{_≡_, refl, sym, ap, subst, _∙_}
 use mathlib.Core.Bool.{true, false}
 use mathlib.Core.List.{List}
 use Rattle.ids.specs.Limits.{no-ticket}
 use Rattle.model.specs.Net.{Core}
-use Rattle.model.specs.Command.{start, call, return, step, ask, room-at}
-use Rattle.model.specs.Transcript.{line, after}
+use Rattle.model.specs.Command.{Command, start, call, return, step, ask, room-at}
+use Rattle.model.specs.Transcript as transcript
+use Rattle.model.specs.Transcript.{command, line, after}
 use Rattle.moves.specs.Held.{Arrays}
 use Rattle.text.specs.declared.Printed.{Printed}
 use Rattle.text.specs.Lines.{of-standing, of-room}
@@ -65,3 +66,14 @@ line-is net (Request.Room s k) what e = room-line net s k what (sym e)
 pub line-said : {net : Core} {q : Request} {b : Arrays} {used : ℕ} {what : Printed} {most-of places levels edges : List ℕ}
     → Answered net q b used what most-of places levels edges → line net (asked q) ≡ request-line q what
 line-said {net} {q} {b} {used} {what} h = line-is net q what (h .says)
+
+-- a command's answer is that of its step
+pub command-stepped : {net : Core} {q : Request} {b : Arrays} {used : ℕ} {what : Printed} {most-of places levels edges : List ℕ}
+    → Answered net q b used what most-of places levels edges → (c : Command) → asked q ≡ command c
+    → Stepped (step net c) b used what most-of places levels edges
+unfolding after
+command-stepped {net} {q} {b} {used} {what} {most-of} {places} {levels} {edges} h c e =
+    record {
+      says = h .says ∙ ap (answer-to net) e;
+      runs-on = subst (λ (r : transcript.Request). Running (after net r) b used most-of places levels edges) e (h .runs-on);
+    }

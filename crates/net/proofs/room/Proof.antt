@@ -3,17 +3,17 @@ use mathlib.Core.Path.{_≡_}
 use lib.ListN.{length}
 use Rattle.model.specs.Command.{room-at}
 use Rattle.value.specs.View.{core-of}
-use Rattle.net.proofs.FreshLaws.{fresh}
+use Rattle.entry.proofs.FreshLaws.{fresh}
 use Rattle.net.proofs.AnsweredLaws.{broken-room, room-there, room-seen}
 use borrow.Author.Needs.{needs}
 use Rattle.net.proofs.room.Statement.{statement}
 use Rattle.net.proofs.room.Tie as tie
 
-edges-whole : (c : tie.After-call-table) → length (c .call-table .result .cells) ≡ 4096
+edges-whole : (c : tie.After-call-rows) → length (c .call-rows .result .rows) ≡ 64
 edges-whole c = search needs
 
--- the table of edges and the function's entry, seen from behind the tests
-abbrev table : tie.After-prepare → tie.After-call-table
+-- the words of the edges and the function's entry, seen from behind the tests
+abbrev table : tie.After-prepare → tie.After-call-rows
 table c = let lent = c .before .before .before .before in lent .before .before .before .before
 
 abbrev start : tie.After-prepare → tie.Start
@@ -23,7 +23,7 @@ prepare-requires : tie.Need-prepare-requires
 prepare-requires c κs =
     let lent = c .before .before .before in
     let at-table = lent .before .before .before .before in
-    fresh (at-table .before .before .args .net) (edges-whole at-table) (at-table .call-table .ensures)
+    fresh (at-table .before .before .args .net) (edges-whole at-table) (at-table .call-rows .ensures)
 
 returns : tie.Need-returns
 returns c =

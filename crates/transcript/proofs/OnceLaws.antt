@@ -23,9 +23,9 @@ use Rattle.runs.specs.declared.Stop.{Stop}
 use Rattle.value.specs.View.{core-of, broken}
 use Rattle.value.specs.Handed.{value-of}
 use Rattle.value.specs.declared.Net.{Net}
-use Rattle.net.specs.Ran.{halt-of, untouched, RanOn, NetRuns}
-use Rattle.net.specs.declared.Halt.{Halt}
-use Rattle.net.specs.declared.NetRan.{NetRan}
+use Rattle.transcript.specs.Ran.{halt-of, untouched, RanOn, NetRuns}
+use Rattle.transcript.specs.declared.Halt.{Halt}
+use Rattle.transcript.specs.declared.NetRan.{NetRan}
 
 -- a place on the way from which it went on
 record Passed (bytes : List ℕ) (size : ℕ) (first : Core) (from n : ℕ) : Type 0 where

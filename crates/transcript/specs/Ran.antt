@@ -1,4 +1,4 @@
--- What a run of a net by value answers and writes. For the contract of `net::run`. Assumes nothing.
+-- What a run of a net by value answers and writes. For the contract of `transcript::run`. Assumes nothing.
 use Prim.Native.Nat.{ℕ, _-_}
 use mathlib.Core.Path.{_≡_}
 use mathlib.Core.List.{List}
@@ -11,8 +11,8 @@ use Rattle.runs.specs.declared.Stop.{Stop}
 use Rattle.value.specs.View.{core-of, broken}
 use Rattle.value.specs.Handed.{value-of}
 use Rattle.value.specs.declared.Net.{Net}
-use Rattle.net.specs.declared.Halt.{Halt}
-use Rattle.net.specs.declared.NetRan.{NetRan}
+use Rattle.transcript.specs.declared.Halt.{Halt}
+use Rattle.transcript.specs.declared.NetRan.{NetRan}
 
 abbrev pub halt-of : Stop → Halt
 halt-of Stop.Full = Halt.Full

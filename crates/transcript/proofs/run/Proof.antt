@@ -1,20 +1,20 @@
--- `net::run` meets its contract: 19 where a rule is broken; else the arrays hold the net, the run goes over them, and what they hold behind it is packed.
+-- `transcript::run` meets its contract: 19 where a rule is broken; else the arrays hold the net, the run goes over them, and what they hold behind it is packed.
 -- Assumes nothing.
 use mathlib.Core.Path.{_≡_, refl, sym}
 use lib.ListN.{length}
 use Rattle.model.proofs.HeldLaws.{Sized}
 use Rattle.text.proofs.PutLaws.{put-long}
-use Rattle.net.proofs.FreshLaws.{fresh}
-use Rattle.net.proofs.RanLaws.{refused-run, ran-on, run-packing}
+use Rattle.entry.proofs.FreshLaws.{fresh}
+use Rattle.transcript.proofs.RanLaws.{refused-run, ran-on, run-packing}
 use borrow.Author.Needs.{needs}
-use Rattle.net.proofs.run.Statement.{statement}
-use Rattle.net.proofs.run.Tie as tie
+use Rattle.transcript.proofs.run.Statement.{statement}
+use Rattle.transcript.proofs.run.Tie as tie
 
-edges-whole : (c : tie.After-call-table) → length (c .call-table .result .cells) ≡ 4096
+edges-whole : (c : tie.After-call-rows) → length (c .call-rows .result .rows) ≡ 64
 edges-whole c = search needs
 
--- the table of edges and the function's entry, seen from behind the tests
-abbrev table : tie.After-prepare → tie.After-call-table
+-- the words of the edges and the function's entry, seen from behind the tests
+abbrev table : tie.After-prepare → tie.After-call-rows
 table c = let lent = c .before .before .before .before in lent .before .before .before .before
 
 abbrev start : tie.After-prepare → tie.Start
@@ -24,7 +24,7 @@ prepare-requires : tie.Need-prepare-requires
 prepare-requires c κs =
     let lent = c .before .before .before in
     let at-table = lent .before .before .before .before in
-    fresh (at-table .before .before .before .before .args .net) (edges-whole at-table) (at-table .call-table .ensures)
+    fresh (at-table .before .before .before .before .args .net) (edges-whole at-table) (at-table .call-rows .ensures)
 
 returns : tie.Need-returns
 returns c =

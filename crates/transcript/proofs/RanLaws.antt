@@ -24,9 +24,9 @@ use Rattle.value.specs.View.{core-of, broken}
 use Rattle.value.specs.Handed.{value-of}
 use Rattle.value.specs.declared.Net.{Net}
 use Rattle.pack.specs.Packed.{Packing}
-use Rattle.net.specs.Ran.{halt-of, untouched, RanOn, NetRuns}
-use Rattle.net.specs.declared.Halt.{Halt}
-use Rattle.net.specs.declared.NetRan.{NetRan}
+use Rattle.transcript.specs.Ran.{halt-of, untouched, RanOn, NetRuns}
+use Rattle.transcript.specs.declared.Halt.{Halt}
+use Rattle.transcript.specs.declared.NetRan.{NetRan}
 
 after-plan : (net : Core) (q : Request) → after net q .plan ≡ net .plan
 unfolding after

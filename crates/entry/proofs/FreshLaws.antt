@@ -1,4 +1,4 @@
--- Arrays that are made anew hold nothing, and the table of call edges is that of the plan: a net can be prepared in them. Assumes nothing.
+-- Arrays that are made anew hold nothing, and the words of the call edges are those of the plan: a net can be prepared in them. Assumes nothing.
 use Prim.Native.Nat.{ℕ, zero, suc, _*_, _<_}
 use mathlib.Core.Path.{_≡_, refl, sym, _∙_}
 use mathlib.Core.List.{List}
@@ -6,13 +6,11 @@ use lib.ListN.{length, getD, replicate, length-replicate, getD-replicate}
 use Rattle.ids.specs.Limits.{sites, most-threads, most-open, nodes}
 use Rattle.model.specs.Plan.{has-edge}
 use Rattle.model.specs.PlanValue.{records-of}
-use Rattle.graph.specs.Tables.{on}
-use Rattle.graph.specs.Steps.{Is}
-use Rattle.graph.proofs.StepLaws.{on-lit}
+use Rattle.links.specs.Rows.{RowsTell}
 use Rattle.moves.specs.Held.{arrays}
 use Rattle.value.specs.declared.Net.{Net}
 use Rattle.tally.specs.Tally.{Unlimited}
 use Rattle.entry.specs.Entry.{Zeros, Blank}
 
 pub zero-at : (n i : ℕ) → _≡_ {A = ℕ} (getD (replicate n 0) i 0) 0
 zero-at zero i = refl
@@ -29,7 +27,7 @@ unlimited =
       all-255 = λ i h. getD-replicate {A = ℕ} (sites * most-threads) i 255 0 h;
     }
 
-pub fresh : (net : Net) {edges : List ℕ} → length edges ≡ nodes * nodes → Is edges (has-edge (records-of (net .plan)))
+pub fresh : (net : Net) {edges : List ℕ} → length edges ≡ nodes → RowsTell edges (has-edge (records-of (net .plan)))
     → Blank net
     (arrays (replicate most-open 0) (replicate most-open 0) (replicate most-open 0) (replicate most-open 0) (replicate (sites * most-threads) 255)) edges
 fresh net {edges} whole is =
@@ -39,5 +37,5 @@ fresh net {edges} whole is =
       of-keys = zeros;
       of-nodes = zeros;
       of-rooms = unlimited;
-      edging = record { whole = whole; tells = λ n m hn hm. sym (on-lit edges n m hm) ∙ is n m hn hm };
+      edging = record { whole = whole; tells = is };
     }
