@@ -11,7 +11,7 @@ use std::io::{Read, Write};
 use std::process::ExitCode;
 
 const HELP: &str = "table text            the text for the input on standard input (TABLE_WRONG names a wrong rule)
-table make SEED KIND  one input; KIND is one of those `table kinds` prints
+table make SEED KIND  one input; KIND is one of those `table kinds` prints, or `long`
 table kinds           the kinds of inputs
 table rules           the wrong rules
 table compare PROGRAM SEEDS
@@ -69,7 +69,7 @@ fn text() -> Option<bool> {
 }
 
 fn made(seed: u64, kind: &str) -> Option<bool> {
-    make::KINDS.contains(&kind).then_some(())?;
+    (kind == make::LONG || make::KINDS.contains(&kind)).then_some(())?;
     write(&make::input(seed, kind))
 }
 

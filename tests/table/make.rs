@@ -667,6 +667,9 @@ fn without_later_kinds(mut bytes: Vec<u8>) -> Vec<u8> {
     bytes
 }
 
+/// A kind that is made for tests/bench alone: some thousand commands over a plan of all 16 sites.
+pub const LONG: &str = "long";
+
 /// One input of the kind. One seed in 25 gives a very long busy one.
 pub fn input(seed: u64, kind: &str) -> Vec<u8> {
     let mut dice = Dice::new(seed, kind);
@@ -681,6 +684,7 @@ pub fn input(seed: u64, kind: &str) -> Vec<u8> {
         "unknown" => unknown_input(dice),
         "random" => random_input(dice),
         "busy" if seed % 25 == 7 => busy_input(dice, kind, 1200),
+        LONG => busy_input(dice, "wide", 250),
         _ => {
             let stretches = dice.between(1, 8);
             busy_input(dice, kind, stretches)
