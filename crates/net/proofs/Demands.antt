@@ -30,7 +30,8 @@ use Rattle.value.specs.Handed.{value-of, answer-value, net-after, outcome-value
 use Rattle.value.specs.declared.Net.{Net}
 use Rattle.value.specs.declared.CommandAnswer.{CommandAnswer}
 use Rattle.net.specs.Demands.{net-behind, ValueDemands}
-use Rattle.net.proofs.ValueLaws.{core-back, value-sound, sound-parts, sound-keeps}
+use Rattle.net.proofs.ValueLaws.{core-back, value-sound, sound-parts, sound-rules, rules-sound, sound-keeps}
+use Rattle.net.proofs.AnsweredLaws.{broken-answered, broken-asked, broken-room}
 
 -- a command that is accepted is answered by no refusal
 accepts : (net : Core) (c : Command) (n : ℕ) → done net c .answer ≡ refused n → ⊥
@@ -164,6 +165,12 @@ value-demands =
       refused-same = same-net;
       answered = λ net sound c. (ap (λ r. r .answer) (is-outcome net sound c), net-told net sound c .0);
       folded = folds;
+      sound-when = λ net. (sound-rules net, λ k. rules-sound net (k .0) (k .1));
+      broken-19 = λ net bad. (
+        (λ c. sym (broken-answered net (broken net) refl bad c)),
+        (λ ticket. sym (broken-asked net (broken net) refl bad ticket)),
+        λ s k. sym (broken-room net (broken net) refl bad s k),
+      );
       made-when = λ p. ((λ e. accepted-plan p e), λ ok. made-0 p .1 (plan-fault-none p .1 ok));
       made-empty = made-told;
       always-safe = λ p none commands.

@@ -91,9 +91,12 @@ module _ (net : Net) (sound : broken net ≡ 0) where
   unfolding broken
   sound-parts = edges-tested (ltb most-edges (net .plan .edges)) refl sound
 
+  pub sound-rules : (net .plan .edges ≤ most-edges) × NetRules (core-of net) (row-of (net .counts))
+  sound-rules = (sound-parts .0, rules-exactly (core-of net) (row-of (net .counts)) .0 (sound-parts .1))
+
   pub sound-keeps : Keeps (core-of net)
   sound-keeps =
-      let k = rules-exactly (core-of net) (row-of (net .counts)) .0 (sound-parts .1) in
+      let k = sound-rules .1 in
       record {
         plan-passes = k .plan-passes;
         tickets-differ = k .tickets-differ;
@@ -105,3 +108,7 @@ module _ (net : Net) (sound : broken net ≡ 0) where
         settled = k .settled;
         few-open = k .few-open;
       }
+
+pub rules-sound : (net : Net) → net .plan .edges ≤ most-edges → NetRules (core-of net) (row-of (net .counts)) → broken net ≡ 0
+unfolding broken
+rules-sound net edges k = rw (le-ltb most-edges (net .plan .edges) edges) (rules-exactly (core-of net) (row-of (net .counts)) .1 k)
