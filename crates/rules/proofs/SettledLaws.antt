@@ -7,7 +7,7 @@ use mathlib.Core.Bool.{Bool, true, false, not, cond, _&&_}
 use mathlib.Core.List.{List, List·Memᴰ}
 use lib.ListN.{length, getD}
 use lib.Dec.{eqb}
-use borrow.Author.Tests.{eq-eqb}
+use borrow.Author.Tests.{eqb-true, eq-eqb}
 use Rattle.ids.specs.Limits.{sites, most-threads, most-open}
 use Rattle.lists.specs.Count.{first}
 use Rattle.lists.specs.Pick.{all, any, first-place}
@@ -17,7 +17,7 @@ use Rattle.lists.proofs.TellLaws.{place-inside}
 use Rattle.model.specs.Plan.{Record, threads}
 use Rattle.model.specs.Net.{Call, site-of, is-on, waits-on, counts, admissible, limit-at, may-wake}
 use Rattle.model.specs.NetRules.{could-go}
-use Rattle.model.proofs.PlaceLaws.{threads-most, site-small}
+use Rattle.model.proofs.PlaceLaws.{threads-most, site-small, level-below-threads}
 use Rattle.rooms.specs.Rooms.{no-room, Limited}
 use Rattle.table.specs.Places.{between, Table}
 use Rattle.moves.proofs.RoomLaws.{limited, rooms-limit}
@@ -96,6 +96,18 @@ module _ {rs : List Record} {cs : List Call} {keys rooms : List ℕ} {used : ℕ
                 let stays = all-at (λ c. not (could-go rs cs c)) cs q (w .0) (w .1) in
                 never-both (wakes-could rs cs s (w .0) (w .2)) (denied (could-go rs cs (w .0)) (could-go rs cs (w .0)) refl stays)
             go (inr e) q = ne (waiter-at ∙ ap (λ (b : Bool). cond b (first-place (may-wake rs cs s) cs) most-open) e)
+
+    -- no call stands at a site without threads
+    pub threadless : getD most-of s 0 ≡ 0 → any (may-wake rs cs s) cs ≡ false
+    unfolding may-wake waits-on is-on
+    threadless e =
+        not-true-false (any (may-wake rs cs s) cs)
+        (λ q.
+        let w = any-some (may-wake rs cs s) cs q in
+        let c = w .0 in
+        let waits = and-left (eqb (site-of rs (c .node)) s && not (c .active)) (admissible rs cs (c .node)) (w .2) in
+        let here = eqb-true (site-of rs (c .node)) s (and-left (eqb (site-of rs (c .node)) s) (not (c .active)) waits) in
+        omega (arith, level-below-threads rs (ok .firm .pass) (c .node) (ok .firm .known c (w .1)), ap (threads rs) here, most-is, e))
 
     pub asleep-more : AsleepTo rs cs s → any (may-wake rs cs s) cs ≡ false → AsleepTo rs cs (s + 1)
     asleep-more asleep e t l =

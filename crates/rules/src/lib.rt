@@ -86,8 +86,13 @@ pub fn settled<'a>(keys: &'a [u16], rooms: &'a [u8], used: usize, threads: &'a [
     ensures { λ r. ⌜ SettledTest (now (keys .entry)) (now (rooms .entry)) used (now (threads .entry)) r ⌝ }
 {
     for site in 0..Site::COUNT {
+        let most = threads[site];
+        // Nobody waits at a site without threads.
+        if most == 0 {
+            continue;
+        }
         let base = Site::THREADS * site;
-        let limit = rooms::limit(rooms, base, threads[site]);
+        let limit = rooms::limit(rooms, base, most);
         let top = base + limit as usize;
         if table::waiter(keys, used, base as u16, top as u16) != Ticket::OPEN {
             return false;

@@ -5,7 +5,7 @@ use mathlib.Core.List.{List}
 use Rattle.model.specs.Plan.{Record}
 use Rattle.model.specs.Net.{Call}
 use Rattle.rules.specs.Rules.{SettledSeen}
-use Rattle.rules.proofs.SettledLaws.{AsleepTo, keys-table, site-limited, limit-most, nobody-there, somebody-there, asleep-more, all-asleep}
+use Rattle.rules.proofs.SettledLaws.{AsleepTo, keys-table, site-limited, limit-most, nobody-there, somebody-there, threadless, asleep-more, all-asleep}
 use borrow.Author.Needs.{needs}
 use Rattle.rules.proofs.settled.Statement.{statement}
 use Rattle.rules.proofs.settled.Tie as tie
@@ -23,15 +23,28 @@ loop-holds c = (omega arith, λ rs cs ok s l. absurd (omega arith))
 abbrev start : tie.At-loop Inv-loop μ-loop → tie.Start Inv-loop μ-loop
 start c = c .before .before .before .before
 
-shared-slice-read-limit : tie.Need-shared-slice-read-limit Inv-loop μ-loop
-shared-slice-read-limit c = omega (arith, c .before .loop-test .taken, start (c .before .before) .pre .2 .threads-whole)
+shared-slice-read-most : tie.Need-shared-slice-read-most Inv-loop μ-loop
+shared-slice-read-most c = omega (arith, c .before .loop-test .taken, start (c .before .before) .pre .2 .threads-whole)
+
+-- a site without threads
+loop-again : tie.Need-loop-again Inv-loop μ-loop
+loop-again c =
+    let in-loop = c .before .before in
+    let at-loop = in-loop .before in
+    let s = at-loop .loop .site in
+    let inside = in-loop .loop-test .taken in (
+      omega (arith, inside),
+      λ rs cs ok. asleep-more ok s inside (at-loop .loop .inv .1 rs cs ok) (threadless ok s inside (c .if1 .taken)),
+    )
 
 limit-requires : tie.Need-limit-requires Inv-loop μ-loop
-limit-requires c κs = let at-loop = c .before .before in site-limited (start at-loop .pre .2) (at-loop .loop .site) (c .before .loop-test .taken)
+limit-requires c κs =
+    let in-loop = c .before .before in
+    site-limited (start (in-loop .before) .pre .2) (in-loop .before .loop .site) (in-loop .loop-test .taken)
 
 -- behind the limit: the loop's turn, and that the limit is among the levels
 abbrev in-loop : tie.After-limit Inv-loop μ-loop → tie.In-loop Inv-loop μ-loop
-in-loop c = c .before .before
+in-loop c = c .before .before .before
 
 low : (c : tie.After-limit Inv-loop μ-loop) → c .limit .result ≤ 64
 low c =
@@ -55,10 +68,10 @@ returns c =
     let at-limit = c .before .before in
     let at-loop = in-loop at-limit .before in
     λ rs cs ok.
-    somebody-there ok (at-loop .loop .site) (in-loop at-limit .loop-test .taken) _ (at-limit .limit .ensures) _ (c .before .waiter .ensures) (c .if1 .taken)
+    somebody-there ok (at-loop .loop .site) (in-loop at-limit .loop-test .taken) _ (at-limit .limit .ensures) _ (c .before .waiter .ensures) (c .if2 .taken)
 
-loop-again : tie.Need-loop-again Inv-loop μ-loop
-loop-again c =
+loop-again-2 : tie.Need-loop-again-2 Inv-loop μ-loop
+loop-again-2 c =
     let at-limit = c .before .before in
     let at-loop = in-loop at-limit .before in
     let s = at-loop .loop .site in
@@ -66,7 +79,7 @@ loop-again c =
       omega (arith, inside),
       λ rs cs ok.
           asleep-more ok s inside (at-loop .loop .inv .1 rs cs ok)
-          (nobody-there ok s inside _ (at-limit .limit .ensures) _ (c .before .waiter .ensures) (c .if1 .left)),
+          (nobody-there ok s inside _ (at-limit .limit .ensures) _ (c .before .waiter .ensures) (c .if2 .left)),
     )
 
 returns-2 : tie.Need-returns-2 Inv-loop μ-loop
@@ -79,8 +92,11 @@ settled-spec =
     Inv-loop
     μ-loop
     loop-holds
+    shared-slice-read-most
     (λ c. search needs)
-    shared-slice-read-limit
+    (λ c. search needs)
+    loop-again
+    (λ c. search needs)
     limit-requires
     (λ c. search needs)
     add-top
@@ -90,5 +106,5 @@ settled-spec =
     returns
     (λ c. search needs)
     (λ c. search needs)
-    loop-again
+    loop-again-2
     returns-2)
