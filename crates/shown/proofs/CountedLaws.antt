@@ -20,46 +20,46 @@ use Rattle.shown.specs.Heading.{site-count, node-count}
 
 -- A count grows by one record at the most
 
-few : (look : List Record → ℕ) (f : ℕ → Option Record) (rs : List Record)
+grows-few : (look : List Record → ℕ) (f : ℕ → Option Record) (rs : List Record)
     → ((i : ℕ) (qs : List Record) → look (push (f i) qs) ≤ look qs + 1) → (k : ℕ) → look (each f k rs) ≤ look rs + k
-few look f rs one zero = omega arith
-few look f rs one (suc k) = omega (arith, one k (each f k rs), few look f rs one k)
+grows-few look f rs one zero = omega arith
+grows-few look f rs one (suc k) = omega (arith, one k (each f k rs), grows-few look f rs one k)
 
 module _ (p : Plan) where
   -- the sites below k
-  unfoldable pub sites-below : ℕ → ℕ
-  sites-below k = length (sites-of (each (site-at (p .threads)) k []))
+  unfoldable pub sites-up-to : ℕ → ℕ
+  sites-up-to k = length (sites-of (each (site-at (p .threads)) k []))
 
   -- and the nodes
-  unfoldable pub nodes-below : ℕ → ℕ
-  nodes-below k = length (listed (each (node-at (p .places) (p .levels)) k (its-sites p)))
+  unfoldable pub nodes-up-to : ℕ → ℕ
+  nodes-up-to k = length (listed (each (node-at (p .places) (p .levels)) k (its-sites p)))
 
   -- Sites
 
-  pub sites-none : sites-below 0 ≡ 0
-  unfolding sites-below
+  pub sites-none : sites-up-to 0 ≡ 0
+  unfolding sites-up-to
   sites-none = refl
 
-  pub site-passed : (k : ℕ) → getD (p .threads) k 0 ≡ 0 → sites-below (k + 1) ≡ sites-below k
-  unfolding sites-below
+  pub site-passed : (k : ℕ) → getD (p .threads) k 0 ≡ 0 → sites-up-to (k + 1) ≡ sites-up-to k
+  unfolding sites-up-to
   site-passed k h = rw (add-one k, eq-eqb (getD (p .threads) k 0) 0 h)
 
-  pub site-counted : (k : ℕ) → (getD (p .threads) k 0 ≡ 0 → ⊥) → sites-below (k + 1) ≡ sites-below k + 1
-  unfolding sites-below
+  pub site-counted : (k : ℕ) → (getD (p .threads) k 0 ≡ 0 → ⊥) → sites-up-to (k + 1) ≡ sites-up-to k + 1
+  unfolding sites-up-to
   site-counted k h = rw (add-one k, ne-eqb (getD (p .threads) k 0) 0 h) (omega arith)
 
-  pub sites-few : (k : ℕ) → sites-below k ≤ k
-  unfolding sites-below
+  pub sites-few : (k : ℕ) → sites-up-to k ≤ k
+  unfolding sites-up-to
   sites-few k =
-      omega (arith, few (λ rs. length (sites-of rs)) (site-at (p .threads)) [] (λ i qs. go i qs (eqb (getD (p .threads) i 0) 0)) k)
+      omega (arith, grows-few (λ rs. length (sites-of rs)) (site-at (p .threads)) [] (λ i qs. go i qs (eqb (getD (p .threads) i 0) 0)) k)
     where
       go : (i : ℕ) (qs : List Record) (b : Bool)
           → length (sites-of (push (cond b none (some (site i (getD (p .threads) i 0)))) qs)) ≤ length (sites-of qs) + 1
       go i qs true = omega arith
       go i qs false = omega arith
 
-  pub sites-all : sites-below sites ≡ site-count p
-  unfolding sites-below site-count
+  pub sites-all : sites-up-to sites ≡ site-count p
+  unfolding sites-up-to site-count
   sites-all =
       sym (ap count (records-each p)
       ∙ each-skip count (edge-at (p .callers) (p .callees)) (min (p .edges) most-edges) (its-nodes p) (λ i qs l. refl)
@@ -75,8 +75,8 @@ module _ (p : Plan) where
 
   -- Nodes
 
-  pub nodes-none : nodes-below 0 ≡ 0
-  unfolding nodes-below listed
+  pub nodes-none : nodes-up-to 0 ≡ 0
+  unfolding nodes-up-to listed
   nodes-none = each-skip (λ rs. length (listed rs)) (site-at (p .threads)) sites [] (λ i qs l. go i qs (eqb (getD (p .threads) i 0) 0))
     where
       go : (i : ℕ) (qs : List Record) (b : Bool)
@@ -88,21 +88,21 @@ module _ (p : Plan) where
     its-place : getD (p .places) k nowhere ≡ getD (p .places) k 0
     its-place = getD-inside (p .places) k nowhere 0 inside
 
-    pub node-passed : getD (p .places) k 0 ≡ nowhere → nodes-below (k + 1) ≡ nodes-below k
-    unfolding nodes-below listed
+    pub node-passed : getD (p .places) k 0 ≡ nowhere → nodes-up-to (k + 1) ≡ nodes-up-to k
+    unfolding nodes-up-to listed
     node-passed h = rw (add-one k, its-place ∙ h)
 
-    pub node-counted : (getD (p .places) k 0 ≡ nowhere → ⊥) → nodes-below (k + 1) ≡ nodes-below k + 1
-    unfolding nodes-below listed
+    pub node-counted : (getD (p .places) k 0 ≡ nowhere → ⊥) → nodes-up-to (k + 1) ≡ nodes-up-to k + 1
+    unfolding nodes-up-to listed
     node-counted h = rw (add-one k, ne-eqb (getD (p .places) k nowhere) nowhere (λ e. h (sym its-place ∙ e))) (omega arith)
 
-  pub nodes-few : (k : ℕ) → nodes-below k ≤ k
-  unfolding nodes-below listed
+  pub nodes-few : (k : ℕ) → nodes-up-to k ≤ k
+  unfolding nodes-up-to listed
   nodes-few k =
       omega (
         arith,
         nodes-none,
-        few (λ rs. length (listed rs)) (node-at (p .places) (p .levels)) (its-sites p)
+        grows-few (λ rs. length (listed rs)) (node-at (p .places) (p .levels)) (its-sites p)
             (λ i qs. go i qs (somewhere (getD (p .places) i nowhere))) k,
       )
     where
@@ -111,8 +111,8 @@ module _ (p : Plan) where
       go i qs true = omega arith
       go i qs false = omega arith
 
-  pub nodes-all : nodes-below nodes ≡ node-count p
-  unfolding nodes-below node-count listed
+  pub nodes-all : nodes-up-to nodes ≡ node-count p
+  unfolding nodes-up-to node-count listed
   nodes-all =
       sym (ap count (records-each p)
       ∙ each-skip count (edge-at (p .callers) (p .callees)) (min (p .edges) most-edges) (its-nodes p) (λ i qs l. refl))

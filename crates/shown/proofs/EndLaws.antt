@@ -20,20 +20,20 @@ module _ (rs : List Record) (r : Record) where
   abbrev tests : List (Bool × ℕ)
   tests = ((follows rs r, 3) ∷ (in-range r, 4) ∷ (known rs r, 5) ∷ []) ++ six .tests rs r ++ ((room-for rs r, 9) ∷ [])
 
-  record-never : (n : ℕ) → absent n tests ≡ true → record-fault six rs r ≡ n → ⊥
+  no-record-fault : (n : ℕ) → absent n tests ≡ true → record-fault six rs r ≡ n → ⊥
   unfolding record-fault
-  record-never n a e = absent-never n tests a e
+  no-record-fault n a e = absent-never n tests a e
 
-above : (n : ℕ) → (n ≡ 7) ⊎ (n ≡ 8) → 6 < n
-above n h = ⊎-elim (λ (l : n ≡ 7). omega arith) (λ (l : n ≡ 8). omega arith) h
+over-six : (n : ℕ) → (n ≡ 7) ⊎ (n ≡ 8) → 6 < n
+over-six n h = ⊎-elim (λ (l : n ≡ 7). omega arith) (λ (l : n ≡ 8). omega arith) h
 
 early-never : (rs : List Record) (tail : List ℕ) (n : ℕ) → Fault six unchecked rs tail n → (n ≡ 7) ⊎ (n ≡ 8) → ⊥
-early-never rs tail n (no-kind e q) h = omega (arith, above n h)
-early-never rs tail n (strange-kind kind rest e out q) h = omega (arith, above n h)
-early-never rs tail n (short-body kind size rest e given few q) h = omega (arith, above n h)
+early-never rs tail n (no-kind e q) h = omega (arith, over-six n h)
+early-never rs tail n (strange-kind kind rest e out q) h = omega (arith, over-six n h)
+early-never rs tail n (short-body kind size rest e given few q) h = omega (arith, over-six n h)
 early-never rs tail n (of-record r rest e q) h =
-    ⊎-elim (λ (l : n ≡ 7). record-never rs r 7 refl (q ∙ l)) (λ (l : n ≡ 8). record-never rs r 8 refl (q ∙ l)) h
-early-never rs tail n (of-plan rest e q) h = omega (arith, above n h)
+    ⊎-elim (λ (l : n ≡ 7). no-record-fault rs r 7 refl (q ∙ l)) (λ (l : n ≡ 8). no-record-fault rs r 8 refl (q ∙ l)) h
+early-never rs tail n (of-plan rest e q) h = omega (arith, over-six n h)
 
 -- the checks on the whole plan give 7, 8 or nothing
 whole-ends : (rs : List Record) (at : ℕ) → Ended (finish (eqb (end-fault rs) 0) (end-fault rs) rs at)

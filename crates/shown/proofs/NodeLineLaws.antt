@@ -13,26 +13,26 @@ use Rattle.ids.specs.Limits.{nodes}
 use Rattle.model.specs.PlanValue.{nowhere, somewhere}
 use Rattle.model.specs.Text.{Text, ascii, decimal, spaced, newline}
 use Rattle.text.proofs.DigitLaws.{decimal-one, decimal-longer}
-use Rattle.shown.specs.Lines.{rising, item, items, node-text, node-texts}
+use Rattle.shown.specs.Lines.{in-turn, item, items, node-text, node-texts}
 use Rattle.shown.specs.Room.{item-most, line-most}
 
 -- One number more
 
 pub items-none : (row : ℕ → Bool) → [] ≡ items row 0
-unfolding items rising
+unfolding items in-turn
 items-none row = refl
 
 pub items-more : (row : ℕ → Bool) (k : ℕ) → items row k ++ item (row k) k ≡ items row (k + 1)
-unfolding items rising
+unfolding items in-turn
 items-more row k = rw (add-one k)
 
 pub texts-none : (listed : ℕ → Bool) (depends : ℕ → ℕ → Bool) → [] ≡ node-texts listed depends 0
-unfolding node-texts rising
+unfolding node-texts in-turn
 texts-none listed depends = refl
 
 pub texts-more : (listed : ℕ → Bool) (depends : ℕ → ℕ → Bool) (k : ℕ)
     → node-texts listed depends k ++ node-text (listed k) (depends k) k ≡ node-texts listed depends (k + 1)
-unfolding node-texts rising
+unfolding node-texts in-turn
 texts-more listed depends k = rw (add-one k)
 
 -- A line is there where its node is somewhere
@@ -48,14 +48,14 @@ module _ (row : ℕ → Bool) (n place : ℕ) where
 
 -- Where the parts are the same
 
-rising-same : (f g : ℕ → Text) (k : ℕ) → ((i : ℕ) → i < k → f i ≡ g i) → rising f k ≡ rising g k
-unfolding rising
-rising-same f g zero h = refl
-rising-same f g (suc k) h = ap₂ _++_ (rising-same f g k (λ i l. h i (omega arith))) (h k (omega arith))
+in-turn-same : (f g : ℕ → Text) (k : ℕ) → ((i : ℕ) → i < k → f i ≡ g i) → in-turn f k ≡ in-turn g k
+unfolding in-turn
+in-turn-same f g zero h = refl
+in-turn-same f g (suc k) h = ap₂ _++_ (in-turn-same f g k (λ i l. h i (omega arith))) (h k (omega arith))
 
 items-same : (f g : ℕ → Bool) (k : ℕ) → ((m : ℕ) → m < k → f m ≡ g m) → items f k ≡ items g k
 unfolding items
-items-same f g k h = rising-same (λ m. item (f m) m) (λ m. item (g m) m) k (λ m l. ap (λ (b : Bool). item b m) (h m l))
+items-same f g k h = in-turn-same (λ m. item (f m) m) (λ m. item (g m) m) k (λ m l. ap (λ (b : Bool). item b m) (h m l))
 
 line-same : (b : Bool) (f g : ℕ → Bool) (n : ℕ) → items f nodes ≡ items g nodes → node-text b f n ≡ node-text b g n
 unfolding node-text
@@ -66,7 +66,7 @@ pub texts-same : (a b : ℕ → Bool) (f g : ℕ → ℕ → Bool) → ((n : ℕ
     → ((n m : ℕ) → n < nodes → m < nodes → f n m ≡ g n m) → node-texts a f nodes ≡ node-texts b g nodes
 unfolding node-texts
 texts-same a b f g there same =
-    rising-same (λ n. node-text (a n) (f n) n) (λ n. node-text (b n) (g n) n) nodes
+    in-turn-same (λ n. node-text (a n) (f n) n) (λ n. node-text (b n) (g n) n) nodes
     (λ n h.
     ap (λ (t : Bool). node-text t (f n) n) (there n h)
     ∙ line-same (b n) (f n) (g n) n (items-same (f n) (g n) nodes (λ m l. same n m h l)))
@@ -88,7 +88,7 @@ item-short true m h = omega (arith, decimal-short m (omega arith))
 item-short false m h = omega arith
 
 pub items-most : (row : ℕ → Bool) (k : ℕ) → k ≤ nodes → length (items row k) ≤ k * item-most
-unfolding items rising
+unfolding items in-turn
 items-most row zero h = omega arith
 items-most row (suc k) h =
     omega (arith, length-append (items row k) (item (row k) k), items-most row k (omega arith), item-short (row k) k (omega arith))
@@ -100,7 +100,7 @@ line-short true row n h =
 line-short false row n h = omega arith
 
 pub texts-most : (listed : ℕ → Bool) (depends : ℕ → ℕ → Bool) (k : ℕ) → k ≤ nodes → length (node-texts listed depends k) ≤ k * line-most
-unfolding node-texts rising
+unfolding node-texts in-turn
 texts-most listed depends zero h = omega arith
 texts-most listed depends (suc k) h =
     omega (

@@ -24,37 +24,37 @@ use Rattle.plan.specs.Answers.{Answers}
 use Rattle.plan.proofs.AnswerLaws.{Reached}
 use Rattle.shown.specs.Heading.{heading, first-text}
 use Rattle.shown.specs.Dependence.{node-depends}
-use Rattle.shown.specs.Lines.{node-texts, plan-text, behind-end, shown-text, placed, marked}
+use Rattle.shown.specs.Lines.{node-texts, plan-text, behind-end, shown-text, is-listed, told-on}
 use Rattle.shown.specs.Room.{line-most, shown-most}
 use Rattle.shown.proofs.NodeLineLaws.{texts-same, texts-most}
 use Rattle.shown.proofs.HeadingLaws.{heading-told, heading-most}
-use Rattle.shown.proofs.DependenceLaws.{marked-is}
+use Rattle.shown.proofs.DependenceLaws.{told-on-depends}
 
 -- what a table holds that tells the dependences of a plan's value
 abbrev pub Dependences : List ℕ → Plan → Type 0
 Dependences cells p = Tells cells (Depends (within-nodes (calls (records-of p))) (site-steps (records-of p)))
 
 -- a node has a record where it is somewhere
-placed-is : (rs : List Record) → RecordsOk rs → (n : ℕ) → n < nodes → placed (value rs .places) n ≡ present (place rs n)
-placed-is rs ok n h =
+is-listed-value : (rs : List Record) → RecordsOk rs → (n : ℕ) → n < nodes → is-listed (value rs .places) n ≡ present (place rs n)
+is-listed-value rs ok n h =
     ap somewhere (getD-inside (value rs .places) n 0 nowhere (omega (arith, value-sized rs .places))) ∙ sym (present-value rs ok n)
 
 value-text : (rs : List Record) → RecordsOk rs → (cells : List ℕ) → Dependences cells (value rs)
-    → node-texts (placed (value rs .places)) (marked cells) nodes ≡ plan-text rs
+    → node-texts (is-listed (value rs .places)) (told-on cells) nodes ≡ plan-text rs
 unfolding plan-text
 value-text rs ok cells tells =
-    texts-same (placed (value rs .places)) (λ n. present (place rs n)) (marked cells) (node-depends rs) (placed-is rs ok)
-    (marked-is rs ok cells (subst (λ (qs : List Record). Tells cells (Depends (within-nodes (calls qs)) (site-steps qs))) (records-value rs ok) tells))
+    texts-same (is-listed (value rs .places)) (λ n. present (place rs n)) (told-on cells) (node-depends rs) (is-listed-value rs ok)
+    (told-on-depends rs ok cells (subst (λ (qs : List Record). Tells cells (Depends (within-nodes (calls qs)) (site-steps qs))) (records-value rs ok) tells))
 
 module _ (bytes : List ℕ) where
   -- the end record was reached
   pub shown-reached : (r : PlanRead) → Answers r (read bytes) → (p : Plan) (used : ℕ) → Reached bytes p used
-      → (cells : List ℕ) → Dependences cells p → first-text r ++ node-texts (placed (p .places)) (marked cells) nodes ≡ shown-text bytes
+      → (cells : List ℕ) → Dependences cells p → first-text r ++ node-texts (is-listed (p .places)) (told-on cells) nodes ≡ shown-text bytes
   unfolding shown-text
   shown-reached r told p used there cells tells =
       let rs = there .records in
       ap₂ _++_ (heading-told bytes r told)
-      (ap (λ (q : Plan). node-texts (placed (q .places)) (marked cells) nodes) (there .plan-is)
+      (ap (λ (q : Plan). node-texts (is-listed (q .places)) (told-on cells) nodes) (there .plan-is)
       ∙ value-text rs (there .right) cells (subst (Dependences cells) (there .plan-is) tells)
       ∙ sym (ap behind-end (there .scanned-is)))
 

@@ -5,11 +5,15 @@ use mathlib.Core.List.{List, [], _∷_}
 use Rattle.model.specs.Graph.{either, via}
 use Rattle.model.specs.Plan.{Record, edges-of, calls, site-steps, listed}
 
--- some of these edges is on a path from n to m
-abbrev pub some-between : (ℕ → ℕ → Bool) → List ℕ → List (ℕ × ℕ) → ℕ → ℕ → Bool
-some-between step ns [] n m = false
-some-between step ns (e ∷ es) n m = (via step ns n (e .0) && via step ns (e .1) m) || some-between step ns es n m
+-- an edge is on a path from n to m
+abbrev pub on-way : (ℕ → ℕ → Bool) → List ℕ → ℕ → ℕ → ℕ × ℕ → Bool
+on-way step ns n m e = via step ns n (e .0) && via step ns (e .1) m
+
+-- some of these edges is
+abbrev pub some-on-way : (ℕ → ℕ → Bool) → List ℕ → ℕ → ℕ → List (ℕ × ℕ) → Bool
+some-on-way step ns n m [] = false
+some-on-way step ns n m (e ∷ es) = on-way step ns n m e || some-on-way step ns n m es
 
 -- "Node n depends on m if a path leads from n to m with at least one call edge, where the path may also step between nodes of one site"
 unfoldable pub node-depends : List Record → ℕ → ℕ → Bool
-node-depends rs n m = some-between (either (calls rs) (site-steps rs)) (listed rs) (edges-of rs) n m
+node-depends rs n m = some-on-way (either (calls rs) (site-steps rs)) (listed rs) n m (edges-of rs)

@@ -16,9 +16,9 @@ use Rattle.shown.specs.Heading.{heading}
 use Rattle.shown.specs.Dependence.{node-depends}
 
 -- the texts of the numbers below k, one after the other
-unfoldable pub rising : (ℕ → Text) → ℕ → Text
-rising text-of zero = []
-rising text-of (suc k) = rising text-of k ++ text-of k
+unfoldable pub in-turn : (ℕ → Text) → ℕ → Text
+in-turn text-of zero = []
+in-turn text-of (suc k) = in-turn text-of k ++ text-of k
 
 -- a space and m, where it is to be named
 abbrev pub item : Bool → ℕ → Text
@@ -27,7 +27,7 @@ item false m = []
 
 -- the nodes that are to be named in a line
 unfoldable pub items : (ℕ → Bool) → ℕ → Text
-items row k = rising (λ m. item (row m) m) k
+items row k = in-turn (λ m. item (row m) m) k
 
 -- the line of n, where it is listed: its number, a colon, and the nodes that it depends on
 unfoldable pub node-text : Bool → (ℕ → Bool) → ℕ → Text
@@ -36,7 +36,7 @@ node-text false row n = []
 
 -- the lines of the nodes below k
 unfoldable pub node-texts : (ℕ → Bool) → (ℕ → ℕ → Bool) → ℕ → Text
-node-texts listed depends k = rising (λ n. node-text (listed n) (depends n) n) k
+node-texts listed depends k = in-turn (λ n. node-text (listed n) (depends n) n) k
 
 -- the lines of a plan's nodes
 unfoldable pub plan-text : List Record → Text
@@ -58,8 +58,8 @@ shown-text bytes = heading (read bytes) ++ behind-end (scanned bytes)
 
 -- The same two tests as the code has them: a node's place, and the byte of a pair in the table of dependences
 
-abbrev pub placed : List ℕ → ℕ → Bool
-placed places n = somewhere (getD places n 0)
+abbrev pub is-listed : List ℕ → ℕ → Bool
+is-listed places n = somewhere (getD places n 0)
 
-abbrev pub marked : List ℕ → ℕ → ℕ → Bool
-marked cells n m = eqb (getD cells (nodes * n + m) 0) 1
+abbrev pub told-on : List ℕ → ℕ → ℕ → Bool
+told-on cells n m = eqb (getD cells (nodes * n + m) 0) 1

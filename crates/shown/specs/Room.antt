@@ -23,14 +23,14 @@ shown-room = shown-most + number-room
 
 -- what the parts ask for: a place for so many bytes, and for a node
 
-pub record ItemAsked (text : List ℕ) (at m : ℕ) : Type 0 where
+pub record ItemRoom (text : List ℕ) (at m : ℕ) : Type 0 where
   pub room : at + number-room ≤ length text
   pub node : m < nodes
 
-pub record RowAsked (text : List ℕ) (at n : ℕ) : Type 0 where
+pub record RowRoom (text : List ℕ) (at n : ℕ) : Type 0 where
   pub room : at + nodes * item-most + number-room ≤ length text
   pub node : n < nodes
 
-pub record LineAsked (text : List ℕ) (at n : ℕ) : Type 0 where
+pub record LineRoom (text : List ℕ) (at n : ℕ) : Type 0 where
   pub room : at + line-most + number-room ≤ length text
   pub node : n < nodes

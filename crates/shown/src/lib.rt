@@ -14,8 +14,8 @@ ghost use Rattle.model.specs.PlanValue.{somewhere};
 ghost use Rattle.text.specs.Put.{Put};
 ghost use Rattle.text.specs.Room.{number-room, plan-room};
 ghost use Rattle.shown.specs.Heading.{site-count, node-count, first-text};
-ghost use Rattle.shown.specs.Lines.{item as item-text, items, node-text, node-texts, shown-text, placed, marked};
-ghost use Rattle.shown.specs.Room.{line-most, shown-room, ItemAsked, RowAsked, LineAsked};
+ghost use Rattle.shown.specs.Lines.{item as item-text, items, node-text, node-texts, shown-text, is-listed, told-on};
+ghost use Rattle.shown.specs.Room.{line-most, shown-room, ItemRoom, RowRoom, LineRoom};
 
 // The room that `show` asks for: the longest first line, and for each node its number, a colon, 64 numbers with a space each and the line's end; and behind
 // them room for a number of any size.
@@ -77,7 +77,7 @@ pub fn first_line(text: &mut [u8], at: usize, read: PlanRead) -> usize
 
 // A node's number behind a space, where it is to be named.
 fn item(text: &mut [u8], at: usize, m: usize, named: bool) -> usize
-    requires { ⌜ ItemAsked (now text) at m ⌝ }
+    requires { ⌜ ItemRoom (now text) at m ⌝ }
     ensures { λ r. ⌜ Put (now (text .entry)) at (item-text named m) (now (text .exit)) r ⌝ }
 {
     if named {
@@ -88,8 +88,8 @@ fn item(text: &mut [u8], at: usize, m: usize, named: bool) -> usize
 
 // The nodes that n depends on.
 fn row(text: &mut [u8], start: usize, table: Table, n: usize) -> usize
-    requires { ⌜ RowAsked (now text) start n ⌝ }
-    ensures { λ r. ⌜ Put (now (text .entry)) start (items (marked (table .cells) n) nodes) (now (text .exit)) r ⌝ }
+    requires { ⌜ RowRoom (now text) start n ⌝ }
+    ensures { λ r. ⌜ Put (now (text .entry)) start (items (told-on (table .cells) n) nodes) (now (text .exit)) r ⌝ }
 {
     let mut at = start;
     let mut m = 0;
@@ -102,8 +102,8 @@ fn row(text: &mut [u8], start: usize, table: Table, n: usize) -> usize
 
 // The line of a node, where it is listed.
 fn node_line(text: &mut [u8], start: usize, place: u8, table: Table, n: usize) -> usize
-    requires { ⌜ LineAsked (now text) start n ⌝ }
-    ensures { λ r. ⌜ Put (now (text .entry)) start (node-text (somewhere place) (marked (table .cells) n) n) (now (text .exit)) r ⌝ }
+    requires { ⌜ LineRoom (now text) start n ⌝ }
+    ensures { λ r. ⌜ Put (now (text .entry)) start (node-text (somewhere place) (told-on (table .cells) n) n) (now (text .exit)) r ⌝ }
 {
     if place == Plan::NOWHERE {
         return start;
@@ -118,7 +118,7 @@ fn node_line(text: &mut [u8], start: usize, place: u8, table: Table, n: usize) -
 // The lines of the listed nodes.
 fn node_lines(text: &mut [u8], start: usize, plan: Plan, table: Table) -> usize
     requires { ⌜ start + nodes * line-most + number-room ≤ length (now text) ⌝ }
-    ensures { λ r. ⌜ Put (now (text .entry)) start (node-texts (placed (plan .places)) (marked (table .cells)) nodes) (now (text .exit)) r ⌝ }
+    ensures { λ r. ⌜ Put (now (text .entry)) start (node-texts (is-listed (plan .places)) (told-on (table .cells)) nodes) (now (text .exit)) r ⌝ }
 {
     let mut at = start;
     let mut n = 0;

@@ -7,12 +7,12 @@ use lib.ListN.{length, getD}
 use borrow.Author.Needs.{needs}
 use Rattle.ids.specs.Limits.{nodes}
 use Rattle.model.specs.PlanValue.{nowhere}
-use Rattle.shown.proofs.CountedLaws.{nodes-below, nodes-none, node-passed, node-counted, nodes-few, nodes-all}
+use Rattle.shown.proofs.CountedLaws.{nodes-up-to, nodes-none, node-passed, node-counted, nodes-few, nodes-all}
 use Rattle.shown.proofs.node_count.Statement.{statement}
 use Rattle.shown.proofs.node_count.Tie as tie
 
 abbrev Inv-loop : tie.InvT-loop
-Inv-loop plan count₀ i₀ count i = (count ≡ nodes-below plan i) × (i ≤ nodes)
+Inv-loop plan count₀ i₀ count i = (count ≡ nodes-up-to plan i) × (i ≤ nodes)
 
 abbrev μ-loop : tie.MeasureT-loop
 μ-loop plan count₀ i₀ count i = nodes - i
@@ -42,7 +42,7 @@ returns c =
     let at-loop = c .before in
     let p = at-loop .before .args .t1 in
     let all : at-loop .loop .i ≡ nodes = omega arith in
-    at-loop .loop .inv .0 ∙ ap (nodes-below p) all ∙ nodes-all p
+    at-loop .loop .inv .0 ∙ ap (nodes-up-to p) all ∙ nodes-all p
 
 pub node-count-spec : {M : Type 1} → statement M
 node-count-spec =

@@ -7,7 +7,7 @@ use Rattle.ids.specs.Limits.{nodes}
 use Rattle.text.specs.Put.{Put}
 use Rattle.text.specs.Room.{number-room}
 use Rattle.text.proofs.PutLaws.{put-none, put-then, put-as, put-long, room-left}
-use Rattle.shown.specs.Lines.{node-texts, placed, marked}
+use Rattle.shown.specs.Lines.{node-texts, is-listed, told-on}
 use Rattle.shown.specs.Room.{line-most}
 use Rattle.shown.proofs.NodeLineLaws.{texts-none, texts-more, texts-most}
 use Rattle.shown.proofs.node_lines.Statement.{statement}
@@ -15,7 +15,7 @@ use Rattle.shown.proofs.node_lines.Tie as tie
 
 abbrev Inv-loop : tie.InvT-loop
 Inv-loop text₀ start table plan at₀ n₀ text at n =
-    Put text₀ start (node-texts (placed (plan .places)) (marked (table .cells)) n) text at × (n ≤ nodes)
+    Put text₀ start (node-texts (is-listed (plan .places)) (told-on (table .cells)) n) text at × (n ≤ nodes)
 
 abbrev μ-loop : tie.MeasureT-loop
 μ-loop text₀ start table plan at₀ n₀ text at n = nodes - n
@@ -34,7 +34,7 @@ left : (c : tie.At-loop Inv-loop μ-loop) → c .loop .n + 1 ≤ nodes → c .lo
 left c more =
     let start = at-start c in
     let n = c .loop .n in
-    let few = texts-most (placed (start .args .t3 .places)) (marked (start .args .table .cells)) n (c .loop .inv .1) in
+    let few = texts-most (is-listed (start .args .t3 .places)) (told-on (start .args .table .cells)) n (c .loop .inv .1) in
     room-left (n * line-most) (line-most + number-room) (c .loop .inv .0) few (omega (arith, start .pre))
 
 node-line-requires : tie.Need-node-line-requires Inv-loop μ-loop
@@ -56,7 +56,7 @@ returns c =
     let at-loop = c .before in
     let start = at-start at-loop in
     let all : at-loop .loop .n ≡ nodes = omega arith in
-    put-as (ap (node-texts (placed (start .args .t3 .places)) (marked (start .args .table .cells))) all) (at-loop .loop .inv .0)
+    put-as (ap (node-texts (is-listed (start .args .t3 .places)) (told-on (start .args .table .cells))) all) (at-loop .loop .inv .0)
 
 pub node-lines-spec : {M : Type 1} → statement M
 node-lines-spec =

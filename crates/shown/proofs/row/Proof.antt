@@ -7,14 +7,14 @@ use Rattle.ids.specs.Limits.{nodes}
 use Rattle.text.specs.Put.{Put}
 use Rattle.text.specs.Room.{number-room}
 use Rattle.text.proofs.PutLaws.{put-none, put-then, put-as, put-long, room-left}
-use Rattle.shown.specs.Lines.{items, marked}
+use Rattle.shown.specs.Lines.{items, told-on}
 use Rattle.shown.specs.Room.{item-most}
 use Rattle.shown.proofs.NodeLineLaws.{items-none, items-more, items-most}
 use Rattle.shown.proofs.row.Statement.{statement}
 use Rattle.shown.proofs.row.Tie as tie
 
 abbrev Inv-loop : tie.InvT-loop
-Inv-loop text₀ start n table at₀ m₀ text at m = Put text₀ start (items (marked (table .cells) n) m) text at × (m ≤ nodes)
+Inv-loop text₀ start n table at₀ m₀ text at m = Put text₀ start (items (told-on (table .cells) n) m) text at × (m ≤ nodes)
 
 abbrev μ-loop : tie.MeasureT-loop
 μ-loop text₀ start n table at₀ m₀ text at m = nodes - m
@@ -33,7 +33,7 @@ left : (c : tie.At-loop Inv-loop μ-loop) → c .loop .at + number-room ≤ leng
 left c =
     let start = at-start c in
     let m = c .loop .m in
-    let few = items-most (marked (start .args .t3 .cells) (start .args .n)) m (c .loop .inv .1) in
+    let few = items-most (told-on (start .args .t3 .cells) (start .args .n)) m (c .loop .inv .1) in
     room-left (m * item-most) number-room (c .loop .inv .0) few (omega (arith, start .pre .room, c .loop .inv .1))
 
 item-requires : tie.Need-item-requires Inv-loop μ-loop
@@ -53,7 +53,7 @@ returns c =
     let at-loop = c .before in
     let start = at-start at-loop in
     let all : at-loop .loop .m ≡ nodes = omega arith in
-    put-as (ap (items (marked (start .args .t3 .cells) (start .args .n))) all) (at-loop .loop .inv .0)
+    put-as (ap (items (told-on (start .args .t3 .cells) (start .args .n))) all) (at-loop .loop .inv .0)
 
 pub row-spec : {M : Type 1} → statement M
 row-spec =

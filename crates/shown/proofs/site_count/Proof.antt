@@ -6,12 +6,12 @@ use mathlib.Core.Logic.{⊎-elim}
 use lib.ListN.{getD}
 use borrow.Author.Needs.{needs}
 use Rattle.ids.specs.Limits.{sites}
-use Rattle.shown.proofs.CountedLaws.{sites-below, sites-none, site-passed, site-counted, sites-few, sites-all}
+use Rattle.shown.proofs.CountedLaws.{sites-up-to, sites-none, site-passed, site-counted, sites-few, sites-all}
 use Rattle.shown.proofs.site_count.Statement.{statement}
 use Rattle.shown.proofs.site_count.Tie as tie
 
 abbrev Inv-loop : tie.InvT-loop
-Inv-loop plan count₀ i₀ count i = (count ≡ sites-below plan i) × (i ≤ sites)
+Inv-loop plan count₀ i₀ count i = (count ≡ sites-up-to plan i) × (i ≤ sites)
 
 abbrev μ-loop : tie.MeasureT-loop
 μ-loop plan count₀ i₀ count i = sites - i
@@ -37,7 +37,7 @@ returns c =
     let at-loop = c .before in
     let p = at-loop .before .args .t1 in
     let all : at-loop .loop .i ≡ sites = omega arith in
-    at-loop .loop .inv .0 ∙ ap (sites-below p) all ∙ sites-all p
+    at-loop .loop .inv .0 ∙ ap (sites-up-to p) all ∙ sites-all p
 
 pub site-count-spec : {M : Type 1} → statement M
 site-count-spec =
