@@ -17,8 +17,8 @@ ghost use Rattle.shown.specs.Heading.{site-count, node-count, first-text
 ghost use Rattle.shown.specs.Lines.{item as item-text, items, node-text, node-texts, shown-text, is-listed, told-on};
 ghost use Rattle.shown.specs.Room.{line-most, shown-room, ItemRoom, RowRoom, LineRoom};
 
-// The room that `show` asks for: the longest first line, and for each node its number, a colon, 64 numbers with a space each and the line's end; and behind
-// them room for a number of any size.
+// The room that `show` asks for, `shown-room`: the longest first line, for each node its number, a colon, 64 numbers with a space each and the line's end, and
+// behind them room for a number of any size, which `text::number` asks for whatever it writes.
 pub const ROOM: usize = 89 + Node::COUNT * (3 * Node::COUNT + 4) + 6;
 
 // How many sites a plan has: those with threads.
@@ -129,8 +129,8 @@ fn node_lines(text: &mut [u8], start: usize, plan: Plan, table: Table) -> usize
     at
 }
 
-// All that is shown for some bytes: the first line, and where the end record was reached the lines of the nodes. A plan that is refused for the whole of it is
-// read once more, since a refused reading hands back the empty plan.
+// All that is shown for some bytes: the first line, and where the end record was reached the lines of the nodes. For these the bytes are scanned once more, since
+// a reading that is refused for the whole plan hands back the empty one.
 pub fn show(text: &mut [u8], bytes: &[u8]) -> usize
     requires { ⌜ shown-room ≤ length (now text) ⌝ }
     ensures { λ r. ⌜ Put (now (text .entry)) 0 (shown-text (now (bytes .entry))) (now (text .exit)) r ⌝ }
