@@ -21,7 +21,7 @@ use Rattle.model.specs.Plan.{Record}
 use Rattle.model.specs.Net.{Call, site-of, level-of}
 use Rattle.moves.specs.Held.{key-of}
 use Rattle.value.specs.View.{spare}
-use Rattle.value.specs.Handed.{is-active, call-at, table-of}
+use Rattle.value.specs.Handed.{holds-thread, call-at, table-of}
 use Rattle.value.specs.declared.Call.{Call as CallValue}
 use Rattle.apart.specs.Apart.{Joining}
 
@@ -37,13 +37,13 @@ abbrev pub call-in : List ℕ → List ℕ → List ℕ → List ℕ → ℕ →
 call-in tickets parents keys nodes j = call-value (getD tickets j 0) (getD parents j 0) (getD nodes j 0) (eqb (getD keys j 0) 0)
 
 -- the places below i are done
-pub record Joined (tickets parents keys nodes : List ℕ) (calls : List CallValue) (i : ℕ) : Type 0 where
+pub record JoinedBelow (tickets parents keys nodes : List ℕ) (calls : List CallValue) (i : ℕ) : Type 0 where
   pub whole : length calls ≡ most-open
   pub done : (j : ℕ) → j < i → getD calls j spare ≡ call-in tickets parents keys nodes j
   pub rest : (j : ℕ) → i ≤ j → j < most-open → getD calls j spare ≡ spare
 
 -- a key of 0 is that of an active call
-active-told : (rs : List Record) (cs : List Call) (i : ℕ) → i < length cs → eqb (tell (key-of rs) cs i) 0 ≡ passes-at is-active cs i
+active-told : (rs : List Record) (cs : List Call) (i : ℕ) → i < length cs → eqb (tell (key-of rs) cs i) 0 ≡ passes-at holds-thread cs i
 unfolding tell passes-at key-of
 active-told rs [] i h = absurd (not-suc-le-zero h)
 active-told rs (c ∷ cs) zero h = go (c .active)
@@ -57,12 +57,12 @@ active-told rs (c ∷ cs) zero h = go (c .active)
 active-told rs (c ∷ cs) (suc i) h = active-told rs cs i (le-of-suc-le-suc h)
 
 module _ {tickets parents keys nodes : List ℕ} where
-  pub joined-none : Joined tickets parents keys nodes (replicate most-open spare) 0
+  pub joined-none : JoinedBelow tickets parents keys nodes (replicate most-open spare) 0
   joined-none =
       record { whole = length-replicate most-open spare; done = λ j l. absurd (not-suc-le-zero l); rest = λ j l m. getD-replicate most-open j spare spare m }
 
-  pub joined-more : {calls : List CallValue} (i : ℕ) → i < most-open → Joined tickets parents keys nodes calls i
-      → Joined tickets parents keys nodes (set calls i (call-in tickets parents keys nodes i)) (i + 1)
+  pub joined-more : {calls : List CallValue} (i : ℕ) → i < most-open → JoinedBelow tickets parents keys nodes calls i
+      → JoinedBelow tickets parents keys nodes (set calls i (call-in tickets parents keys nodes i)) (i + 1)
   joined-more {calls} i room h =
       record {
         whole = length-set calls i here ∙ h .whole;
@@ -80,7 +80,7 @@ module _ {tickets parents keys nodes : List ℕ} where
       here : CallValue
       here = call-in tickets parents keys nodes i
 
-  pub joined-table : {calls : List CallValue} (used i : ℕ) → used ≤ i → i ≤ used → Joined tickets parents keys nodes calls i
+  pub joined-table : {calls : List CallValue} (used i : ℕ) → used ≤ i → i ≤ used → JoinedBelow tickets parents keys nodes calls i
       → (rs : List Record) (cs : List Call) → Joining rs cs tickets parents keys nodes used → calls ≡ table-of cs
   unfolding table-of call-at
   joined-table {calls} used i low high h rs cs ok = tabled-is most-open (call-at cs) calls spare (h .whole) at
@@ -96,5 +96,5 @@ module _ {tickets parents keys nodes : List ℕ} where
           let past : length cs ≤ j = omega (arith, ok .count) in
           h .rest j (omega arith) l
           ∙ sym (same-call (tell-past (λ c. c .ticket) cs j past) (tell-past (λ c. c .parent) cs j past) (tell-past (λ c. c .node) cs j past)
-          (passes-past is-active cs j past)))
+          (passes-past holds-thread cs j past)))
           (lt-or-ge j used)

@@ -15,7 +15,7 @@ use borrow.Author.Count.{below-more}
 use borrow.Author.Tests.{eqb-true, eqb-false, eq-eqb, ne-eqb}
 use Rattle.lists.proofs.CountLaws.{never-both, and-left, and-right, and-both, getD-inside}
 use Rattle.ids.specs.Limits.{nodes, most-edges}
-use Rattle.model.specs.Plan.{Place, calls, site-steps, descends}
+use Rattle.model.specs.Plan.{Place, has-edge, site-steps, descends}
 use Rattle.model.specs.PlanValue.{nowhere, somewhere, edge-records, records-of, held}
 use Rattle.model.specs.declared.Plan.{Plan}
 use Rattle.model.proofs.HeldLaws.{Sized, calls-of, place-of}
@@ -62,27 +62,27 @@ mark-pair cells from to long hf ht n m hn hm =
 
 -- The call edges
 
-pub call-none : (cells cs ds : List ℕ) → cells ≡ replicate (nodes * nodes) 0 → Is cells (calls (edge-records cs ds 0 []))
-unfolding calls
+pub call-none : (cells cs ds : List ℕ) → cells ≡ replicate (nodes * nodes) 0 → Is cells (has-edge (edge-records cs ds 0 []))
+unfolding has-edge
 call-none cells cs ds e n m hn hm = ap (λ (l : List ℕ). on l n m) e ∙ none-on (nodes * nodes) n m
 
-pub call-more : (cells next cs ds : List ℕ) (i : ℕ) → Is cells (calls (edge-records cs ds i []))
-    → Is next (λ n m. (eqb (getD cs i 0) n && eqb (getD ds i 0) m) || on cells n m) → Is next (calls (edge-records cs ds (i + 1) []))
-unfolding calls
+pub call-more : (cells next cs ds : List ℕ) (i : ℕ) → Is cells (has-edge (edge-records cs ds i []))
+    → Is next (λ n m. (eqb (getD cs i 0) n && eqb (getD ds i 0) m) || on cells n m) → Is next (has-edge (edge-records cs ds (i + 1) []))
+unfolding has-edge
 call-more cells next cs ds i so-far turn n m hn hm =
     rw (add-one i)
     (turn n m hn hm ∙ ap (λ (t : Bool). (eqb (getD cs i 0) n && eqb (getD ds i 0) m) || t) (so-far n m hn hm))
 
 -- the loop's invariant: the first i edges are marked
 pub record Marked (p : Plan) (cells : List ℕ) (i : ℕ) : Type 0 where
-  pub done : Is cells (calls (edge-records (p .callers) (p .callees) i []))
+  pub done : Is cells (has-edge (edge-records (p .callers) (p .callees) i []))
   pub within-count : i ≤ min (p .edges) most-edges
   pub table : length cells ≡ nodes * nodes
 
-pub call-all : (p : Plan) (cells : List ℕ) (i : ℕ) → i ≡ min (p .edges) most-edges → Is cells (calls (edge-records (p .callers) (p .callees) i []))
-    → Is cells (calls (records-of p))
+pub call-all : (p : Plan) (cells : List ℕ) (i : ℕ) → i ≡ min (p .edges) most-edges → Is cells (has-edge (edge-records (p .callers) (p .callees) i []))
+    → Is cells (has-edge (records-of p))
 call-all p cells i e so n m hn hm =
-    so n m hn hm ∙ ap (λ (k : ℕ). calls (edge-records (p .callers) (p .callees) k []) n m) e ∙ sym (calls-of p n m)
+    so n m hn hm ∙ ap (λ (k : ℕ). has-edge (edge-records (p .callers) (p .callees) k []) n m) e ∙ sym (calls-of p n m)
 
 -- The steps within a site
 

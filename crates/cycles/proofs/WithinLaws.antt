@@ -13,14 +13,14 @@ use mir.Facts.{and-yes, yes-and}
 use Rattle.lists.proofs.CountLaws.{lt-or-ge}
 use Rattle.ids.specs.Limits.{nodes}
 use Rattle.model.specs.Graph.{Depends}
-use Rattle.model.specs.Plan.{Record, Place, place, calls, site-steps, no-steps, descends, loops, self-depends}
+use Rattle.model.specs.Plan.{Record, Place, place, has-edge, site-steps, no-steps, descends, loops, self-depends}
 use Rattle.model.specs.Records.{RecordsOk}
 use Rattle.model.specs.PlanValue.{records-of}
 use Rattle.model.specs.declared.Plan.{Plan}
 use Rattle.model.proofs.GraphLaws.{depends-more}
 use Rattle.model.proofs.PlanLaws.{calls-listed, loops-is, self-depends-is}
 use Rattle.model.proofs.HeldLaws.{Sized, held-out, place-of}
-use Rattle.graph.specs.Tables.{on, Tells}
+use Rattle.graph.specs.Tables.{on, TableTells}
 use Rattle.graph.specs.Steps.{Is}
 use Rattle.graph.proofs.TellLaws.{on-inside, on-row, none-on}
 use Rattle.cycles.specs.Within.{within-nodes}
@@ -28,8 +28,8 @@ use Rattle.cycles.specs.Within.{within-nodes}
 -- relations with the same pairs have the same dependences
 depends-same : {c s d t : ℕ → ℕ → Bool} → ((n m : ℕ) → T (c n m) ↔ T (d n m)) → ((n m : ℕ) → T (s n m) ↔ T (t n m))
     → (n m : ℕ) → Depends c s n m ↔ Depends d t n m
-depends-same calls steps n m =
-    (depends-more (λ n m. calls n m .0) (λ n m. steps n m .0), depends-more (λ n m. calls n m .1) (λ n m. steps n m .1))
+depends-same edges steps n m =
+    (depends-more (λ n m. edges n m .0) (λ n m. steps n m .0), depends-more (λ n m. edges n m .1) (λ n m. steps n m .1))
 
 -- and the same nodes that depend on themselves
 circle-same : {c s d t : ℕ → ℕ → Bool} → ((n m : ℕ) → Depends c s n m ↔ Depends d t n m)
@@ -37,7 +37,7 @@ circle-same : {c s d t : ℕ → ℕ → Bool} → ((n m : ℕ) → Depends c s 
 circle-same h = ((λ w. (w .0, h (w .0) (w .0) .0 (w .1))), (λ w. (w .0, h (w .0) (w .0) .1 (w .1))))
 
 tells-same : (cells : List ℕ) (c s d t : ℕ → ℕ → Bool) → ((n m : ℕ) → Depends c s n m ↔ Depends d t n m)
-    → Tells cells (Depends c s) → Tells cells (Depends d t)
+    → TableTells cells (Depends c s) → TableTells cells (Depends d t)
 tells-same cells c s d t h so =
     record { long = so .long; small = so .small; told = λ n m hn hm. Iff·trans (so .told n m hn hm) (h n m) }
 
@@ -73,15 +73,15 @@ within-all relation low n m = (
 
 -- The plan's tables: of call edges, and of no steps or of those within a site
 module _ (calling : List ℕ) (long : length calling ≡ nodes * nodes) where
-  pub loop-tables : (rs : List Record) (steps : List ℕ) → Is calling (calls rs) → steps ≡ replicate (nodes * nodes) 0
-      → ((n : ℕ) × Depends (on calling) (on steps) n n) ↔ ((n : ℕ) × Depends (within-nodes (calls rs)) no-steps n n)
+  pub loop-tables : (rs : List Record) (steps : List ℕ) → Is calling (has-edge rs) → steps ≡ replicate (nodes * nodes) 0
+      → ((n : ℕ) × Depends (on calling) (on steps) n n) ↔ ((n : ℕ) × Depends (within-nodes (has-edge rs)) no-steps n n)
   loop-tables rs steps is zeros =
       circle-same
-      (depends-same (on-within calling (calls rs) long is)
+      (depends-same (on-within calling (has-edge rs) long is)
       (λ n m. ((λ h. subst T (ap (λ (l : List ℕ). on l n m) zeros ∙ none-on (nodes * nodes) n m) h), (λ h. absurd h))))
 
   module _ (p : Plan) (sized : Sized p) (steps : List ℕ) (steps-long : length steps ≡ nodes * nodes)
-      (call-is : Is calling (calls (records-of p))) (step-is : Is steps (site-steps (records-of p))) where
+      (call-is : Is calling (has-edge (records-of p))) (step-is : Is steps (site-steps (records-of p))) where
     node-low : (n : ℕ) (q : Place) → place (records-of p) n ≡ some q → n < nodes
     node-low n q e =
         ⊎-elim
@@ -102,38 +102,38 @@ module _ (calling : List ℕ) (long : length calling ≡ nodes * nodes) where
         go (some o) (some q) e f t = (node-low n o e, node-low m q f)
 
     table-depends : (n m : ℕ)
-        → Depends (on calling) (on steps) n m ↔ Depends (within-nodes (calls (records-of p))) (site-steps (records-of p)) n m
+        → Depends (on calling) (on steps) n m ↔ Depends (within-nodes (has-edge (records-of p))) (site-steps (records-of p)) n m
     table-depends =
-        depends-same (on-within calling (calls (records-of p)) long call-is)
+        depends-same (on-within calling (has-edge (records-of p)) long call-is)
         (λ n m.
         Iff·trans (on-within steps (site-steps (records-of p)) steps-long step-is n m) (within-all (site-steps (records-of p)) steps-low n m))
 
     pub circle-tables : ((n : ℕ) × Depends (on calling) (on steps) n n)
-        ↔ ((n : ℕ) × Depends (within-nodes (calls (records-of p))) (site-steps (records-of p)) n n)
+        ↔ ((n : ℕ) × Depends (within-nodes (has-edge (records-of p))) (site-steps (records-of p)) n n)
     circle-tables = circle-same table-depends
 
-    pub dependence-tables : (cells : List ℕ) → Tells cells (Depends (on calling) (on steps))
-        → Tells cells (Depends (within-nodes (calls (records-of p))) (site-steps (records-of p)))
+    pub dependence-tables : (cells : List ℕ) → TableTells cells (Depends (on calling) (on steps))
+        → TableTells cells (Depends (within-nodes (has-edge (records-of p))) (site-steps (records-of p)))
     dependence-tables cells so =
-        tells-same cells (on calling) (on steps) (within-nodes (calls (records-of p))) (site-steps (records-of p)) table-depends so
+        tells-same cells (on calling) (on steps) (within-nodes (has-edge (records-of p))) (site-steps (records-of p)) table-depends so
 
 -- A plan whose records are right: all its call edges are between nodes
 module _ (rs : List Record) (ok : RecordsOk rs) where
-  calls-low : (n m : ℕ) → T (calls rs n m) → (n < nodes) × (m < nodes)
+  calls-low : (n m : ℕ) → T (has-edge rs n m) → (n < nodes) × (m < nodes)
   calls-low n m h =
       let w = ok .edge-nodes n m (calls-listed rs n m h) in
       (ok .node-range n (w .0 .0) (w .0 .1) (w .0 .2), ok .node-range m (w .1 .0) (w .1 .1) (w .1 .2))
 
   -- so that the restricted dependences are the plan's
-  pub depends-whole : (steps : ℕ → ℕ → Bool) (n m : ℕ) → Depends (within-nodes (calls rs)) steps n m ↔ Depends (calls rs) steps n m
-  depends-whole steps = depends-same (within-all (calls rs) calls-low) (λ n m. ((λ h. h), (λ h. h)))
+  pub depends-whole : (steps : ℕ → ℕ → Bool) (n m : ℕ) → Depends (within-nodes (has-edge rs)) steps n m ↔ Depends (has-edge rs) steps n m
+  depends-whole steps = depends-same (within-all (has-edge rs) calls-low) (λ n m. ((λ h. h), (λ h. h)))
 
   -- and the restricted loops and self-dependences are those of checks 7 and 8
-  pub loops-within : (loops rs ≡ true) ↔ ((n : ℕ) × Depends (within-nodes (calls rs)) no-steps n n)
+  pub loops-within : (loops rs ≡ true) ↔ ((n : ℕ) × Depends (within-nodes (has-edge rs)) no-steps n n)
   loops-within = Iff·trans (loops-is rs ok) (Iff·symm (circle-same (depends-whole no-steps)))
 
-  pub self-depends-within : (self-depends rs ≡ true) ↔ ((n : ℕ) × Depends (within-nodes (calls rs)) (site-steps rs) n n)
+  pub self-depends-within : (self-depends rs ≡ true) ↔ ((n : ℕ) × Depends (within-nodes (has-edge rs)) (site-steps rs) n n)
   self-depends-within = Iff·trans (self-depends-is rs ok) (Iff·symm (circle-same (depends-whole (site-steps rs))))
 
-  pub dependence-told : (cells : List ℕ) → Tells cells (Depends (within-nodes (calls rs)) (site-steps rs)) → Tells cells (Depends (calls rs) (site-steps rs))
-  dependence-told cells so = tells-same cells (within-nodes (calls rs)) (site-steps rs) (calls rs) (site-steps rs) (depends-whole (site-steps rs)) so
+  pub dependence-told : (cells : List ℕ) → TableTells cells (Depends (within-nodes (has-edge rs)) (site-steps rs)) → TableTells cells (Depends (has-edge rs) (site-steps rs))
+  dependence-told cells so = tells-same cells (within-nodes (has-edge rs)) (site-steps rs) (has-edge rs) (site-steps rs) (depends-whole (site-steps rs)) so

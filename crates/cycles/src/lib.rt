@@ -11,9 +11,9 @@ ghost use lib.Dec.{eqb};
 ghost use lib.ListN.{length};
 ghost use Rattle.ids.specs.Limits.{nodes};
 ghost use Rattle.model.specs.Graph.{Depends};
-ghost use Rattle.model.specs.Plan.{calls, site-steps, no-steps};
+ghost use Rattle.model.specs.Plan.{has-edge, site-steps, no-steps};
 ghost use Rattle.model.specs.PlanValue.{records-of};
-ghost use Rattle.graph.specs.Tables.{on, Tells};
+ghost use Rattle.graph.specs.Tables.{on, TableTells};
 ghost use Rattle.graph.specs.Steps.{Is};
 ghost use Rattle.cycles.specs.Within.{within-nodes, steps-in, StepAsked, RowAsked, Rowed};
 
@@ -35,7 +35,7 @@ fn mark(cells: &mut [u8], from: u8, to: u8)
 
 // The call edges, as a table.
 pub fn call_table(plan: Plan) -> Table
-    ensures { λ r. ⌜ Is (r .cells) (calls (records-of plan)) ⌝ }
+    ensures { λ r. ⌜ Is (r .cells) (has-edge (records-of plan)) ⌝ }
 {
     let mut cells = graph::empty().cells;
     let mut i = 0;
@@ -89,21 +89,21 @@ fn step_table(plan: Plan) -> Table
 
 // Whether the call edges have a loop.
 pub fn loops(plan: Plan) -> bool
-    ensures { λ r. ⌜ (r ≡ true) ↔ ((n : ℕ) × Depends (within-nodes (calls (records-of plan))) no-steps n n) ⌝ }
+    ensures { λ r. ⌜ (r ≡ true) ↔ ((n : ℕ) × Depends (within-nodes (has-edge (records-of plan))) no-steps n n) ⌝ }
 {
     graph::circular(call_table(plan), graph::empty())
 }
 
 // Whether some node depends on itself.
 pub fn self_depends(plan: Plan) -> bool
-    ensures { λ r. ⌜ (r ≡ true) ↔ ((n : ℕ) × Depends (within-nodes (calls (records-of plan))) (site-steps (records-of plan)) n n) ⌝ }
+    ensures { λ r. ⌜ (r ≡ true) ↔ ((n : ℕ) × Depends (within-nodes (has-edge (records-of plan))) (site-steps (records-of plan)) n n) ⌝ }
 {
     graph::circular(call_table(plan), step_table(plan))
 }
 
 // Which nodes depend on which: "one byte for each ordered pair of nodes, so that our engineer can print it".
 pub fn dependence(plan: Plan) -> Table
-    ensures { λ r. ⌜ Tells (r .cells) (Depends (within-nodes (calls (records-of plan))) (site-steps (records-of plan))) ⌝ }
+    ensures { λ r. ⌜ TableTells (r .cells) (Depends (within-nodes (has-edge (records-of plan))) (site-steps (records-of plan))) ⌝ }
 {
     graph::dependence(call_table(plan), step_table(plan))
 }

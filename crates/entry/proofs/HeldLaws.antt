@@ -28,7 +28,7 @@ use Rattle.value.proofs.NodeLaws.{listed-there, node-inside, site-there, level-
 use Rattle.apart.specs.Apart.{Holding, Numberable, Numbers, Keyed, Keyable, Keys}
 use Rattle.apart.proofs.ApartLaws.{first-length}
 use Rattle.tally.specs.Tally.{Placing, Counting, CountsTell, CanRoom, Unlimited}
-use Rattle.rules.specs.Rules.{Counted, TicketsSeen, NodesSeen, ParentsSeen, AllParentsSeen, SettledSeen}
+use Rattle.rules.specs.Rules.{CallsCounted, TicketsSeen, NodesSeen, ParentsSeen, AllParentsSeen, SettledSeen}
 use Rattle.entry.specs.Entry.{Zeros, FirstTested, NumberTested, NumberKept, FirstKept, CallTested, CallKept, SiteKept}
 use Rattle.entry.proofs.BrokenLaws.{rs, cs, core}
 
@@ -66,7 +66,7 @@ module _ (p : Plan) (sized : Sized p) where
       }
 
 module _ (net : Net) where
-  counted : net .used ≤ most-open → Counted (cs net) (net .used)
+  counted : net .used ≤ most-open → CallsCounted (cs net) (net .used)
   counted few = record { count = sym (first-length (net .calls) (net .used)); few = omega (arith, first-length (net .calls) (net .used)) }
 
   pub numberable : {tickets parents nodes : List ℕ} → net .used ≤ most-open → FirstTested tickets parents nodes → Numberable net tickets parents nodes
@@ -98,7 +98,7 @@ module _ (net : Net) where
 
   module _ (sized : Sized (net .plan)) where
     module _ {tickets parents keys nodes edges : List ℕ} (ok : CallTested net tickets parents keys nodes edges) where
-      all-counted : Counted (cs net) (net .used)
+      all-counted : CallsCounted (cs net) (net .used)
       all-counted = counted (ok .first .number-kept .plan-kept .calls-few)
 
       pub parents-seen : AllParentsSeen (rs net) (cs net) tickets parents keys nodes (net .used) edges

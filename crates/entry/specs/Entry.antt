@@ -120,6 +120,6 @@ pub record Blank (net : Net) (a : Arrays) (edges : List ℕ) : Type 0 where
   pub edging : Edging (records-of (net .plan)) edges
 
 -- the first broken rule, and where there is none what the arrays hold
-pub record Enters (net : Net) (a : Arrays) (edges : List ℕ) (r : ℕ) : Type 0 where
+pub record Prepares (net : Net) (a : Arrays) (edges : List ℕ) (r : ℕ) : Type 0 where
   pub fault : r ≡ broken net
   pub runs : r ≡ 0 → Running (core-of net) a (net .used) (net .plan .threads) (net .plan .places) (net .plan .levels) edges

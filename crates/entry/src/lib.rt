@@ -1,7 +1,7 @@
 // A net that is handed in, on its way into a run: its rules are tested one after the other, and the arrays hold it where it keeps them all. An inner
 // crate: the library's own crates alone call it.
 ghost use Rattle.moves.specs.Held.{arrays};
-ghost use Rattle.entry.specs.Entry.{PlanRules, NumberTested, NumberRules, CallTested, CallRules, SiteTested, SiteRules, FirstTested, FirstRules, KeyTested, KeyRules, Blank, Enters};
+ghost use Rattle.entry.specs.Entry.{PlanRules, NumberTested, NumberRules, CallTested, CallRules, SiteTested, SiteRules, FirstTested, FirstRules, KeyTested, KeyRules, Blank, Prepares};
 use ids::Node;
 use ids::Ticket;
 use value::Net;
@@ -124,7 +124,7 @@ pub fn prepare(
     edges: &[u8],
 ) -> u8
     requires { ⌜ Blank net (arrays (now tickets) (now parents) (now keys) (now nodes) (now rooms)) (now edges) ⌝ }
-    ensures { λ r. ⌜ Enters net (arrays (now (tickets .exit)) (now (parents .exit)) (now (keys .exit)) (now (nodes .exit)) (now (rooms .exit))) (now (edges .entry)) r ⌝ }
+    ensures { λ r. ⌜ Prepares net (arrays (now (tickets .exit)) (now (parents .exit)) (now (keys .exit)) (now (nodes .exit)) (now (rooms .exit))) (now (edges .entry)) r ⌝ }
 {
     let first = first_rules(net, tickets, parents, nodes);
     if first != 0 {

@@ -15,7 +15,7 @@ use Rattle.lists.specs.Count.{first, some as holds-below}
 use Rattle.lists.specs.Pick.{first-place}
 use Rattle.lists.proofs.CountLaws.{never-both, lt-or-ge}
 use Rattle.lists.proofs.PickLaws.{count-some, found-in}
-use Rattle.model.specs.Plan.{Record, calls}
+use Rattle.model.specs.Plan.{Record, has-edge}
 use Rattle.model.specs.PlanValue.{nowhere as nowhere-place, somewhere}
 use Rattle.model.specs.Net.{Call, Core, has-node, site-of, level-of, has, lookup, has-child}
 use Rattle.model.specs.Command.{start, call, return, fault}
@@ -51,16 +51,16 @@ module _ {rs : List Record} {cs : List Call} {tickets : List ℕ} {used : ℕ} (
         go (nowhere q r) = q
         go (there c q r inside) = absurd (omega (arith, seen .firm .few))
 
-    pub record Stands : Type 0 where
+    pub record FoundOpen : Type 0 where
       pub who : Call
       pub found : lookup cs ticket ≡ some who
       pub here : at ≡ first-place (has ticket) cs
       pub inside : at < most-open
 
-    pub is-there : (at ≡ most-open → ⊥) → Stands
+    pub is-there : (at ≡ most-open → ⊥) → FoundOpen
     is-there some-place = go where-found
       where
-        go : Found-at cs ticket at → Stands
+        go : Found-at cs ticket at → FoundOpen
         go (nowhere q r) = absurd (some-place r)
         go (there c q r inside) = record { who = c; found = q; here = r; inside = omega (arith, seen .firm .few) }
 
@@ -120,15 +120,15 @@ module _ (rs : List Record) (cs : List Call) where
             call-22 e = rw (some-ticket apart, fresh, stands, runs, e)
 
             module _ (listed : has-node rs node ≡ true) where
-              pub call-25 : calls rs (p .node) node ≡ false → 25 ≡ fault net (call parent ticket node)
+              pub call-25 : has-edge rs (p .node) node ≡ false → 25 ≡ fault net (call parent ticket node)
               unfolding fault
               call-25 e = rw (some-ticket apart, fresh, stands, runs, listed, e)
 
-              pub call-26 : calls rs (p .node) node ≡ true → most-open ≤ length cs → 26 ≡ fault net (call parent ticket node)
+              pub call-26 : has-edge rs (p .node) node ≡ true → most-open ≤ length cs → 26 ≡ fault net (call parent ticket node)
               unfolding fault
               call-26 e full = rw (some-ticket apart, fresh, stands, runs, listed, e, le-ltb (length cs) most-open full)
 
-              pub call-0 : calls rs (p .node) node ≡ true → length cs < most-open → 0 ≡ fault net (call parent ticket node)
+              pub call-0 : has-edge rs (p .node) node ≡ true → length cs < most-open → 0 ≡ fault net (call parent ticket node)
               unfolding fault
               call-0 e room = rw (some-ticket apart, fresh, stands, runs, listed, e, lt-ltb (length cs) most-open room)
 
@@ -164,10 +164,10 @@ module _ {rs : List Record} {cs : List Call} {tickets parents keys : List ℕ} {
 
 -- the edge from a parent's node to a listed node, in the table of edges
 module _ {rs : List Record} {edges : List ℕ} (edging : Edging rs edges) (n m : ℕ) (from-listed : n < nodes) (to-listed : m < nodes) where
-  pub edge-there : (getD edges (nodes * n + m) 0 ≡ 0 → ⊥) → calls rs n m ≡ true
+  pub edge-there : (getD edges (nodes * n + m) 0 ≡ 0 → ⊥) → has-edge rs n m ≡ true
   edge-there lit = sym (edging .tells n m from-listed to-listed) ∙ ap not (ne-eqb (getD edges (nodes * n + m) 0) 0 lit)
 
-  pub edge-lacking : getD edges (nodes * n + m) 0 ≡ 0 → calls rs n m ≡ false
+  pub edge-lacking : getD edges (nodes * n + m) 0 ≡ 0 → has-edge rs n m ≡ false
   edge-lacking dark = sym (edging .tells n m from-listed to-listed) ∙ ap not (eq-eqb (getD edges (nodes * n + m) 0) 0 dark)
 
   pub edge-inside : nodes * n + m < length edges
@@ -239,12 +239,12 @@ module _ {rs : List Record} {cs : List Call} {tickets keys open-nodes places edg
         pub no-edge : cell ≡ 0 → 25 ≡ fault (net rs cs) (call parent ticket node)
         no-edge dark =
             call-25 rs cs ticket apart (p .fresh) parent node (p .who) (p .found) runs node-listed
-            (ap (λ (n : ℕ). calls rs n node) (sym (p .node-told)) ∙ edge-lacking (seen .edging) (getD open-nodes at 0) node from-small to-small dark)
+            (ap (λ (n : ℕ). has-edge rs n node) (sym (p .node-told)) ∙ edge-lacking (seen .edging) (getD open-nodes at 0) node from-small to-small dark)
 
         module _ (lit : cell ≡ 0 → ⊥) where
-          edge-is : calls rs (p .who .node) node ≡ true
+          edge-is : has-edge rs (p .who .node) node ≡ true
           edge-is =
-              ap (λ (n : ℕ). calls rs n node) (sym (p .node-told)) ∙ edge-there (seen .edging) (getD open-nodes at 0) node from-small to-small lit
+              ap (λ (n : ℕ). has-edge rs n node) (sym (p .node-told)) ∙ edge-there (seen .edging) (getD open-nodes at 0) node from-small to-small lit
 
           pub table-full : used ≡ most-open → 26 ≡ fault (net rs cs) (call parent ticket node)
           table-full e =

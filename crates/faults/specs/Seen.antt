@@ -8,7 +8,7 @@ use lib.ListN.{length, getD}
 use lib.Dec.{eqb}
 use Rattle.ids.specs.Limits.{nodes}
 use Rattle.lists.specs.Pick.{first-place}
-use Rattle.model.specs.Plan.{Record, calls}
+use Rattle.model.specs.Plan.{Record, has-edge}
 use Rattle.model.specs.Net.{Call, has-node, has}
 use Rattle.model.specs.Steady.{Firm}
 use Rattle.model.specs.Command.{start, call, return, fault}
@@ -23,7 +23,7 @@ pub record Listing (rs : List Record) (places : List ℕ) : Type 0 where
 -- the lent table has a byte for each pair of nodes, lit where it is an edge
 pub record Edging (rs : List Record) (edges : List ℕ) : Type 0 where
   pub whole : length edges ≡ nodes * nodes
-  pub tells : (n m : ℕ) → n < nodes → m < nodes → not (eqb (getD edges (nodes * n + m) 0) 0) ≡ calls rs n m
+  pub tells : (n m : ℕ) → n < nodes → m < nodes → not (eqb (getD edges (nodes * n + m) 0) 0) ≡ has-edge rs n m
 
 -- the tickets of the open calls
 pub record Ticketed (rs : List Record) (cs : List Call) (tickets : List ℕ) (used : ℕ) : Type 0 where

@@ -14,8 +14,8 @@ use mir.Facts.{and-yes, yes-and}
 use borrow.Author.Tests.{eqb-true, eqb-false, ltb-true, ltb-false}
 use Rattle.ids.specs.Limits.{nodes}
 use Rattle.model.specs.Graph.{either, Reach, stay, go, Depends, via}
-use Rattle.model.proofs.GraphLaws.{or-cases, or-left, or-right, reach-more, via-sound, via-complete, depends-edge, edge-depends, circle-edge, circle-loop}
-use Rattle.graph.specs.Tables.{lit, on, Tells}
+use Rattle.model.proofs.GraphLaws.{or-cases, or-by-left, or-by-right, reach-more, via-sound, via-complete, depends-edge, edge-depends, circle-edge, circle-loop}
+use Rattle.graph.specs.Tables.{lit, on, TableTells}
 use Rattle.graph.specs.Steps.{Joined, Is, by-way, across, MetBack, down}
 use Rattle.graph.proofs.TellLaws.{on-inside, on-row, dark, tells-on, none-on}
 
@@ -61,7 +61,7 @@ module _ (steps start : List ℕ) (begun : Is start (λ n m. eqb n m || on steps
   more hn stay = stay
   more hn (go {n = n} {m = m} e p) =
       let hm = on-inside steps n m e in
-      go (subst T (sym (begun n m hn hm)) (or-right (eqb n m) (on steps n m) e)) (more hm p)
+      go (subst T (sym (begun n m hn hm)) (or-by-right (eqb n m) (on steps n m) e)) (more hm p)
 
   -- once every node is allowed on the way, the table has the paths
   pub closing-all : (cells : List ℕ) → Is cells (via (on start) (down nodes)) →
@@ -101,9 +101,9 @@ mid-across (suc k) by from n m x h a b = cases (λ less. mid-across k by from n 
     cases : (x < k → T (across k by from n m)) → (t : Bool) → eqb x k ≡ t → T (across k by from n m || (by n k && from k m))
     cases rest true e =
         let same = eqb-true x k e in
-        or-right (across k by from n m) (by n k && from k m)
+        or-by-right (across k by from n m) (by n k && from k m)
         (yes-and (by n k) (from k m) (subst (λ (y : ℕ). T (by n y)) same a) (subst (λ (y : ℕ). T (from y m)) same b))
-    cases rest false e = or-left (across k by from n m) (by n k && from k m) (rest (omega (arith, eqb-false x k e)))
+    cases rest false e = or-by-left (across k by from n m) (by n k && from k m) (rest (omega (arith, eqb-false x k e)))
 
 -- two whole tables joined have the pairs of either
 joined-either : (calls steps both : List ℕ) → length calls ≡ nodes * nodes → length steps ≡ nodes * nodes →
@@ -125,7 +125,7 @@ joined-either calls steps both long-calls long-steps joined n m =
 
 -- the closure of two joined tables tells the paths of either
 pub reached-either : (calls steps both cells : List ℕ) → length calls ≡ nodes * nodes → length steps ≡ nodes * nodes →
-    Joined calls both 0 steps 0 (nodes * nodes) → Tells cells (Reach (on both)) → Tells cells (Reach (either (on calls) (on steps)))
+    Joined calls both 0 steps 0 (nodes * nodes) → TableTells cells (Reach (on both)) → TableTells cells (Reach (either (on calls) (on steps)))
 reached-either calls steps both cells long-calls long-steps joined so =
     record {
       long = so .long;
@@ -142,7 +142,7 @@ reached-either calls steps both cells long-calls long-steps joined so =
     back : (n m : ℕ) → T (either (on calls) (on steps) n m) → T (on both n m)
     back n m h = subst T (sym (same n m)) h
 
-module _ (calls steps reach : List ℕ) (long : length calls ≡ nodes * nodes) (paths : Tells reach (Reach (either (on calls) (on steps)))) where
+module _ (calls steps reach : List ℕ) (long : length calls ≡ nodes * nodes) (paths : TableTells reach (Reach (either (on calls) (on steps)))) where
   -- where the table of paths tells all paths, a call edge in it backwards is a node that depends on itself
   pub met-circle : MetBack calls reach ↔ ((n : ℕ) × Depends (on calls) (on steps) n n)
   met-circle = (there, back)

@@ -13,7 +13,7 @@ use mir.Facts.{and-yes}
 use borrow.Author.Tests.{eqb-true, eqb-false, ltb-true, ltb-false, not-true}
 use Rattle.ids.specs.Limits.{nodes}
 use Rattle.model.proofs.GraphLaws.{yes, is-true}
-use Rattle.graph.specs.Tables.{lit, on, Tells}
+use Rattle.graph.specs.Tables.{lit, on, TableTells}
 use Rattle.graph.specs.Steps.{Cleaned, MetBack}
 use Rattle.graph.proofs.StepLaws.{on-lit}
 
@@ -40,7 +40,7 @@ on-row cells n m long h = cases (ltb n nodes) refl
 
 -- a cleaned table tells what its relation was shown to be
 pub tells : (old new : List ℕ) (relation : ℕ → ℕ → Type 0) → length old ≡ nodes * nodes → Cleaned old new →
-    ((n m : ℕ) → n < nodes → m < nodes → T (on old n m) ↔ relation n m) → Tells new relation
+    ((n m : ℕ) → n < nodes → m < nodes → T (on old n m) ↔ relation n m) → TableTells new relation
 tells old new relation long clean shown =
     record { long = clean .long ∙ long; small = clean .small; told = λ n m hn hm. (there n m hn hm, back n m hn hm) }
   where
@@ -59,7 +59,7 @@ tells old new relation long clean shown =
         cases false e = omega (arith, eqb-false (getD new (nodes * n + m) 0) 0 e, clean .small (nodes * n + m))
 
 -- a table that tells a relation has its pairs
-pub tells-on : (cells : List ℕ) (relation : ℕ → ℕ → Type 0) → Tells cells relation → (n m : ℕ) → n < nodes → m < nodes → T (on cells n m) ↔ relation n m
+pub tells-on : (cells : List ℕ) (relation : ℕ → ℕ → Type 0) → TableTells cells relation → (n m : ℕ) → n < nodes → m < nodes → T (on cells n m) ↔ relation n m
 tells-on cells relation so n m hn hm = (
   (λ h. so .told n m hn hm .0 (one (on-lights cells n m h))),
   (λ r. yes (on-lit cells n m hm ∙ ap (λ (b : ℕ). not (eqb b 0)) (so .told n m hn hm .1 r))),
@@ -69,7 +69,7 @@ tells-on cells relation so n m hn hm = (
     one h = omega (arith, eqb-false (getD cells (nodes * n + m) 0) 0 (not-true (eqb (getD cells (nodes * n + m) 0) 0) h), so .small (nodes * n + m))
 
 -- what a table tells determines it
-pub tells-one : (a b : List ℕ) (relation : ℕ → ℕ → Type 0) → Tells a relation → Tells b relation → a ≡ b
+pub tells-one : (a b : List ℕ) (relation : ℕ → ℕ → Type 0) → TableTells a relation → TableTells b relation → a ≡ b
 tells-one a b relation one two = ext-getD 0 a b (one .long ∙ sym (two .long)) same
   where
     pair : (n m : ℕ) → n < nodes → m < nodes → getD a (nodes * n + m) 0 ≡ getD b (nodes * n + m) 0

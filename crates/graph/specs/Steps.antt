@@ -30,7 +30,7 @@ abbrev pub by-way : (ℕ → ℕ → Bool) → (ℕ → ℕ → Bool) → (ℕ �
 by-way old to from k n m = old n m || (to n k && from k m)
 
 -- three whole tables and a node
-pub record Whole (to by from : List ℕ) (k : ℕ) : Type 0 where
+pub record WholeTables (to by from : List ℕ) (k : ℕ) : Type 0 where
   pub to-long : length to ≡ nodes * nodes
   pub by-long : length by ≡ nodes * nodes
   pub from-long : length from ≡ nodes * nodes

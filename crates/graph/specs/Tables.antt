@@ -17,7 +17,7 @@ unfoldable pub on : List ℕ → ℕ → ℕ → Bool
 on cells n m = ltb m nodes && lit cells (nodes * n + m)
 
 -- a table that tells a relation: a byte for each pair, 1 where the pair is in the relation, and else 0
-pub record Tells (cells : List ℕ) (relation : ℕ → ℕ → Type 0) : Type 0 where
+pub record TableTells (cells : List ℕ) (relation : ℕ → ℕ → Type 0) : Type 0 where
   pub long : length cells ≡ nodes * nodes
   pub small : (x : ℕ) → getD cells x 0 ≤ 1
   pub told : (n m : ℕ) → n < nodes → m < nodes → (getD cells (nodes * n + m) 0 ≡ 1) ↔ relation n m

@@ -8,8 +8,8 @@ ghost use lib.Dec.{eqb};
 ghost use lib.ListN.{length, replicate};
 ghost use Rattle.ids.specs.Limits.{nodes};
 ghost use Rattle.model.specs.Graph.{Reach, Depends, either};
-ghost use Rattle.graph.specs.Tables.{on, Tells};
-ghost use Rattle.graph.specs.Steps.{Joined, Cleaned, Whole, Is, by-way, across, MetBack};
+ghost use Rattle.graph.specs.Tables.{on, TableTells};
+ghost use Rattle.graph.specs.Steps.{Joined, Cleaned, WholeTables, Is, by-way, across, MetBack};
 
 // A byte for each ordered pair of nodes: that of (n, m) at 64 n + m.
 pub struct Table {
@@ -28,7 +28,7 @@ fn join(to: &mut [u8], at: usize, from: &[u8], start: usize, count: usize)
 
 // Adds the pairs that lead by way of k: with `by` to it, and with `from` away from it.
 fn spread(to: &mut [u8], by: &[u8], from: &[u8], k: usize)
-    requires { ⌜ Whole (now to) (now by) (now from) k ⌝ }
+    requires { ⌜ WholeTables (now to) (now by) (now from) k ⌝ }
     ensures { λ _. ⌜ Is (now (to .exit)) (by-way (on (now (to .entry))) (on (now (by .entry))) (on (now (from .entry))) k) ⌝ }
 {
     for n in 0..Node::COUNT {
@@ -59,7 +59,7 @@ fn bits(cells: &mut [u8])
 
 // The paths of any number of steps, none included.
 pub fn closure(steps: Table) -> Table
-    ensures { λ r. ⌜ Tells (r .cells) (Reach (on (steps .cells))) ⌝ }
+    ensures { λ r. ⌜ TableTells (r .cells) (Reach (on (steps .cells))) ⌝ }
 {
     let mut cells = steps.cells;
     stays(&mut cells);
@@ -94,7 +94,7 @@ fn product(by: &[u8], from: &[u8]) -> Table
 
 // The paths of call edges and of steps within a site.
 fn reached(calls: Table, steps: Table) -> Table
-    ensures { λ r. ⌜ Tells (r .cells) (Reach (either (on (calls .cells)) (on (steps .cells)))) ⌝ }
+    ensures { λ r. ⌜ TableTells (r .cells) (Reach (either (on (calls .cells)) (on (steps .cells)))) ⌝ }
 {
     let mut cells = calls.cells;
     let steps = steps.cells;
@@ -128,7 +128,7 @@ pub fn circular(calls: Table, steps: Table) -> bool
 
 // The dependences: a path to a call edge, the edge, and a path on from it.
 pub fn dependence(calls: Table, steps: Table) -> Table
-    ensures { λ r. ⌜ Tells (r .cells) (Depends (on (calls .cells)) (on (steps .cells))) ⌝ }
+    ensures { λ r. ⌜ TableTells (r .cells) (Depends (on (calls .cells)) (on (steps .cells))) ⌝ }
 {
     let reach = reached(calls, steps).cells;
     let edges = calls.cells;

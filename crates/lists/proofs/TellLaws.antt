@@ -12,7 +12,7 @@ use lib.Dec.{eqb, ltb, eqb·suc-suc, eqb·zero-suc, eqb·suc-zero, leb·suc-suc}
 use borrow.Author.Tests.{lt-ltb, le-ltb}
 use Rattle.lists.specs.Count.{first, some as holds-below}
 use Rattle.lists.specs.Pick.{any, found, without, changed, tell, passes-at, first-place}
-use Rattle.lists.proofs.CountLaws.{decided, never-both, or-left, or-right, first-none}
+use Rattle.lists.proofs.CountLaws.{true-or-false, never-both, or-left, or-right, first-none}
 use Rattle.lists.proofs.BlockLaws.{some-none, none-some}
 
 -- tests that agree below the bound
@@ -164,7 +164,7 @@ module _ {A : Type 0} where
       go true e =
           let w = any-passes f xs e in
           ⊎-elim (λ q. q) (λ q. absurd (never-both (w .2) (some-none n (passes-at f xs) q (w .0) (omega (arith, w .1)))))
-          (decided (holds-below n (passes-at f xs)))
+          (true-or-false (holds-below n (passes-at f xs)))
       go false e = none-some n (passes-at f xs) (λ k l. none-passes f xs e k)
 
   -- and whether any passes is whether one is found

@@ -15,7 +15,7 @@ use Rattle.model.specs.Site.{A}
 use Rattle.model.specs.Rule.{Rule, LIVE-P, Blocked, Sound}
 use Rattle.model.specs.Paper.{φ′, In-use}
 use Rattle.model.specs.Plan.{Record, threads, six, passes}
-use Rattle.model.specs.Net.{Call, has-node, site-of, level-of, on, active-on, above, counts, admissible, limit-at}
+use Rattle.model.specs.Net.{Call, has-node, site-of, level-of, is-on, active-on, at-or-above, counts, admissible, limit-at}
 use Rattle.model.specs.Steady.{Lawful}
 use Rattle.model.proofs.RuleLaws.{LIVE-P-sound, under-limit, over-limit, admits-below, B}
 use Rattle.model.proofs.PaperLaws.{admit-φ′}
@@ -35,8 +35,8 @@ abbrev pub Held-back : List Record → List Call → ℕ → ℕ → Type 0
 Held-back rs cs s i = Blocked (rule s) (threads rs s) (counts rs cs s) i
 
 module _ (rs : List Record) (pass : passes six rs ≡ true) (cs : List Call) (all-known : (c : Call) → List·Memᴰ c cs → has-node rs (c .node) ≡ true) where
-  nothing-higher : (s : ℕ) (c : Call) → List·Memᴰ c cs → above rs s (threads rs s) c ≡ false
-  unfolding above active-on on
+  nothing-higher : (s : ℕ) (c : Call) → List·Memᴰ c cs → at-or-above rs s (threads rs s) c ≡ false
+  unfolding at-or-above active-on is-on
   nothing-higher s c m = go (eqb (site-of rs (c .node)) s) refl (c .active)
     where
       go : (b : Bool) → eqb (site-of rs (c .node)) s ≡ b → (a : Bool) → (b && a && leb (threads rs s) (level-of rs (c .node))) ≡ false
@@ -49,7 +49,7 @@ module _ (rs : List Record) (pass : passes six rs ≡ true) (cs : List Call) (al
 
   -- no call is active at a level that the site does not have
   pub within : (s : ℕ) → A (counts rs cs s) (threads rs s) ≡ 0
-  within s = A-counts rs s pass cs (threads rs s) ∙ count-none (above rs s (threads rs s)) cs (nothing-higher s)
+  within s = A-counts rs s pass cs (threads rs s) ∙ count-none (at-or-above rs s (threads rs s)) cs (nothing-higher s)
 
 module _ (rs : List Record) (pass : passes six rs ≡ true) (cs : List Call) (law : Lawful rs cs) where
   counts-long : (s : ℕ) → threads rs s ≤ length (counts rs cs s)
@@ -101,7 +101,7 @@ module _ (rs : List Record) (pass : passes six rs ≡ true) (cs : List Call) (la
     level-used s k = (n : ℕ) × (has-node rs n ≡ true) × (site-of rs n ≡ s) × (level-of rs n ≡ k)
 
     pub levels-in-use : (s : ℕ) → In-use (level-used s) (threads rs s) (counts rs cs s)
-    unfolding of-level active-on on
+    unfolding of-level active-on is-on
     levels-in-use s =
         record {
           below = λ k w. omega (arith, level-below-threads rs pass (w .0) (w .1), ap (threads rs) (w .2), w .3);
@@ -111,7 +111,7 @@ module _ (rs : List Record) (pass : passes six rs ≡ true) (cs : List Call) (la
               let here = and-left (active-on rs s c) (eqb (level-of rs (c .node)) k) (v .2) in (
                 c .node,
                 all-known c (v .1),
-                eqb-true (site-of rs (c .node)) s (and-left (on rs s c) (c .active) here),
+                eqb-true (site-of rs (c .node)) s (and-left (is-on rs s c) (c .active) here),
                 eqb-true (level-of rs (c .node)) k (and-right (active-on rs s c) (eqb (level-of rs (c .node)) k) (v .2)),
               );
         }

@@ -14,7 +14,7 @@ use Rattle.model.specs.Plan.{site, threads, six}
 use Rattle.model.specs.Net.{Core, has-node, site-of, level-of, limit-at}
 use Rattle.model.specs.NetRules.{own-book, Keeps}
 use Rattle.model.specs.Command.{Command, start, call, active, waiting, told, fault, step, told-roomed, room-at}
-use Rattle.model.specs.Demands.{Opens, by-start, by-call}
+use Rattle.model.specs.Demands.{OpensCall, by-start, by-call}
 use Rattle.model.proofs.SiteLaws.{not-refused}
 use Rattle.model.proofs.RecordLaws.{passes-ok, threads-listed, listed-threads}
 use Rattle.model.proofs.PlaceLaws.{threads-most, level-below-threads}
@@ -38,7 +38,7 @@ module _ (net : Core) where
   room-unlisted s k unlisted = rw (no-threads s unlisted) (refl, refl)
 
   -- the node of a start or a call that is accepted has a record
-  opened-known : (command : Command) (parent ticket node : ℕ) → Opens command parent ticket node → fault net command ≡ 0
+  opened-known : (command : Command) (parent ticket node : ℕ) → OpensCall command parent ticket node → fault net command ≡ 0
       → has-node (net .plan) node ≡ true
   opened-known (start t n) parent ticket node by-start e = start-fits net ticket node e .listed-node
   opened-known (call p t n) parent ticket node by-call e = call-fits net parent ticket node e .listed-node
@@ -82,7 +82,7 @@ module _ (net : Core) where
       limit-agrees = rw (its-threads, never-255) refl
 
     -- a start or a call that is accepted is told what the site book tells of its level: 1 where it is admitted, 0 where it waits
-    pub opening-agrees : (command : Command) (parent ticket node : ℕ) → Opens command parent ticket node → fault net command ≡ 0
+    pub opening-agrees : (command : Command) (parent ticket node : ℕ) → OpensCall command parent ticket node → fault net command ≡ 0
         → told (step net command .answer)
         ≡ admission-answer (threads (net .plan) (site-of (net .plan) node)) (own-book net (site-of (net .plan) node)) (level-of (net .plan) node)
     unfolding admission-answer

@@ -5,7 +5,7 @@ use Prim.Native.Nat.{ℕ, suc}
 use native.Mathlib.Omega.{arith}
 use Rattle.model.specs.Answers.{toldLevel, toldAdmission, toldRoom}
 use Rattle.model.specs.Command.{Answer, refused, active, waiting, ended, told, Standing, is-running, is-waiting, not-open, told-standing}
-use Rattle.model.specs.Command.{Roomed, has-room, no-answer, told-roomed}
+use Rattle.model.specs.Command.{Roomed, has-room, room-refused, told-roomed}
 use Rattle.model.specs.declared.LevelAnswer.{LevelAnswer}
 use Rattle.model.specs.declared.AdmissionAnswer.{AdmissionAnswer}
 use Rattle.model.specs.declared.RoomAnswer.{RoomAnswer}
@@ -78,6 +78,6 @@ standing-injective not-open not-open e = refl
 
 pub roomed-injective : (x y : Roomed) → told-roomed x ≡ told-roomed y → x ≡ y
 roomed-injective (has-room n) (has-room m) e = let q : n ≡ m = cc in ap has-room q
-roomed-injective (has-room n) (no-answer m) e = cc
-roomed-injective (no-answer n) (has-room m) e = cc
-roomed-injective (no-answer n) (no-answer m) e = let q : n ≡ m = cc in ap no-answer q
+roomed-injective (has-room n) (room-refused m) e = cc
+roomed-injective (room-refused n) (has-room m) e = cc
+roomed-injective (room-refused n) (room-refused m) e = let q : n ≡ m = cc in ap room-refused q

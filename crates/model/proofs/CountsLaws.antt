@@ -17,7 +17,7 @@ use Rattle.lists.proofs.CountLaws.{never-both}
 use Rattle.lists.proofs.PickLaws.{count-more, count-without, count-changed}
 use Rattle.model.specs.Site.{A, raised}
 use Rattle.model.specs.Plan.{Record, six, passes}
-use Rattle.model.specs.Net.{Call, level-of, on, active-on, above, counts, activated}
+use Rattle.model.specs.Net.{Call, level-of, is-on, active-on, at-or-above, counts, activated}
 use Rattle.model.proofs.SiteLaws.{A-one, raised-length}
 use Rattle.model.proofs.PlaceLaws.{level-small}
 
@@ -78,13 +78,13 @@ module _ (rs : List Record) (s : ℕ) where
         go false ih = omega (arith, ih)
 
     -- "A[k] the sum of a[j] for all j at or above k": the active calls of level k or higher
-    pub A-counts : (cs : List Call) (k : ℕ) → A (counts rs cs s) k ≡ count (above rs s k) cs
-    unfolding A counts count above
+    pub A-counts : (cs : List Call) (k : ℕ) → A (counts rs cs s) k ≡ count (at-or-above rs s k) cs
+    unfolding A counts count at-or-above
     A-counts [] k = sum-zeros most-threads k
     A-counts (c ∷ cs) k = go (active-on rs s c) (A-counts cs k)
       where
-        go : (b : Bool) → A (counts rs cs s) k ≡ count (above rs s k) cs
-            → A (more b (counts rs cs s) (level-of rs (c .node))) k ≡ one (b && leb k (level-of rs (c .node))) + count (above rs s k) cs
+        go : (b : Bool) → A (counts rs cs s) k ≡ count (at-or-above rs s k) cs
+            → A (more b (counts rs cs s) (level-of rs (c .node))) k ≡ one (b && leb k (level-of rs (c .node))) + count (at-or-above rs s k) cs
         go true ih = omega (arith, A-one (counts rs cs s) (level-of rs (c .node)) k (fits cs (c .node)), ih)
         go false ih = omega (arith, ih)
 
@@ -124,21 +124,21 @@ module _ (rs : List Record) (s : ℕ) where
         (λ k. omega (arith, count-without f (of-level rs s k) cs c e))
 
     pub counts-woken : (f : Call → Bool) (cs : List Call) (c : Call) → found f cs ≡ some c → c .active ≡ false
-        → counts rs (changed activated f cs) s ≡ more (on rs s c) (counts rs cs s) (level-of rs (c .node))
-    unfolding of-level active-on on
+        → counts rs (changed activated f cs) s ≡ more (is-on rs s c) (counts rs cs s) (level-of rs (c .node))
+    unfolding of-level active-on is-on
     counts-woken f cs c e waits =
-        counts-more cs (changed activated f cs) (on rs s c) (level-of rs (c .node)) (level-small rs pass (c .node))
+        counts-more cs (changed activated f cs) (is-on rs s c) (level-of rs (c .node)) (level-small rs pass (c .node))
         (λ k. omega (arith, count-changed activated f (of-level rs s k) cs c e, ap one (before k), ap one (behind k)))
       where
-        before : (k : ℕ) → (on rs s c && c .active && eqb (level-of rs (c .node)) k) ≡ false
-        before k = rw waits (go (on rs s c))
+        before : (k : ℕ) → (is-on rs s c && c .active && eqb (level-of rs (c .node)) k) ≡ false
+        before k = rw waits (go (is-on rs s c))
           where
             go : (b : Bool) → (b && false && eqb (level-of rs (c .node)) k) ≡ false
             go true = refl
             go false = refl
 
-        behind : (k : ℕ) → (on rs s (activated c) && true && eqb (level-of rs (c .node)) k) ≡ (on rs s c && eqb (level-of rs (c .node)) k)
-        behind k = go (on rs s c)
+        behind : (k : ℕ) → (is-on rs s (activated c) && true && eqb (level-of rs (c .node)) k) ≡ (is-on rs s c && eqb (level-of rs (c .node)) k)
+        behind k = go (is-on rs s c)
           where
             go : (b : Bool) → (b && true && eqb (level-of rs (c .node)) k) ≡ (b && eqb (level-of rs (c .node)) k)
             go true = refl

@@ -11,10 +11,10 @@ use Rattle.lists.specs.Pick.{count}
 use Rattle.model.specs.Plan.{threads}
 use Rattle.model.specs.Reading.{PlanOk}
 use Rattle.model.specs.PlanValue.{reading-plan}
-use Rattle.model.specs.Net.{Call, Core, empty-net, site-of, lookup, node-of, ticket-of, above, counts, admissible, opened, closed, to-wake}
+use Rattle.model.specs.Net.{Call, Core, empty-net, site-of, lookup, node-of, ticket-of, at-or-above, counts, admissible, opened, closed, to-wake}
 use Rattle.model.specs.Command.{Command, start, call, return, ended, fault, Outcome, opening, serving, done, step, run}
 use Rattle.model.specs.NetRules.{Keeps}
-use Rattle.model.specs.Demands.{Demand-1, Opens, by-start, by-call, Demand-2, Safe, Demand-3, Drains}
+use Rattle.model.specs.Demands.{Demand-1, OpensCall, by-start, by-call, Demand-2, Safe, Demand-3, Drains}
 use Rattle.model.proofs.SiteLaws.{lawful-at}
 use Rattle.model.proofs.PlanLaws.{accepted-exactly}
 use Rattle.model.proofs.CountsLaws.{A-counts}
@@ -39,12 +39,12 @@ demand-1 =
 
 -- Demand 2
 
-opens-done : (net : Core) (command : Command) (parent ticket node : ℕ) → Opens command parent ticket node
+opens-done : (net : Core) (command : Command) (parent ticket node : ℕ) → OpensCall command parent ticket node
     → done net command ≡ opening (net .plan) (net .calls) parent ticket node
 opens-done net (start t n) parent ticket node by-start = refl
 opens-done net (call p t n) parent ticket node by-call = refl
 
-opens-step : (net : Core) (command : Command) (parent ticket node : ℕ) → Opens command parent ticket node → fault net command ≡ 0
+opens-step : (net : Core) (command : Command) (parent ticket node : ℕ) → OpensCall command parent ticket node → fault net command ≡ 0
     → step net command ≡ opening (net .plan) (net .calls) parent ticket node
 opens-step net command parent ticket node o e = accepted-step net command e ∙ opens-done net command parent ticket node o
 
@@ -73,7 +73,7 @@ demand-2 =
 
 module _ (net : Core) (k : Keeps net) where
   -- the first two parts hold under any plan, accepted or not
-  pub keeps-few : (s j : ℕ) → j < threads (net .plan) s → count (above (net .plan) s j) (net .calls) ≤ threads (net .plan) s - j
+  pub keeps-few : (s j : ℕ) → j < threads (net .plan) s → count (at-or-above (net .plan) s j) (net .calls) ≤ threads (net .plan) s - j
   keeps-few s j h =
       omega (
         arith,

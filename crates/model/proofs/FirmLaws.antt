@@ -17,8 +17,8 @@ use Rattle.lists.proofs.CountLaws.{never-both, and-left, and-right}
 use Rattle.lists.proofs.PickLaws.{count-more, count-none, count-without, count-changed, found-in, found-none, found-more, found-without}
 use Rattle.lists.proofs.PickLaws.{found-changed, in-without, in-changed, changed-none, length-without, length-changed, any-none}
 use Rattle.model.specs.Site.{lawful, raised}
-use Rattle.model.specs.Plan.{Record, threads, calls, six, passes}
-use Rattle.model.specs.Net.{Call, Core, has-node, site-of, level-of, has, lookup, is-child, has-child, on, active-on, waits-on, counts}
+use Rattle.model.specs.Plan.{Record, threads, has-edge, six, passes}
+use Rattle.model.specs.Net.{Call, Core, has-node, site-of, level-of, has, lookup, is-child, has-child, is-on, active-on, waits-on, counts}
 use Rattle.model.specs.Net.{admissible, newcomer, opened, closed, may-wake, to-wake, activated, woken}
 use Rattle.model.specs.NetRules.{Keeps, parent-stands, parent-kept}
 use Rattle.model.specs.Steady.{Lawful, Firm, Newcomer, Ending}
@@ -53,8 +53,8 @@ parent-still rs cs ds c still e = go (eqb (c .parent) no-ticket) e
     stands none f h = absurd (never-both {b = false} h refl)
     stands (some p) f h =
         let w = still p f in
-        let runs = and-left (p .active) (calls rs (p .node) (c .node)) h in
-        let edge = and-right (p .active) (calls rs (p .node) (c .node)) h in
+        let runs = and-left (p .active) (has-edge rs (p .node) (c .node)) h in
+        let edge = and-right (p .active) (has-edge rs (p .node) (c .node)) h in
         rw (w .1, w .3 runs, w .2) edge
 
     go : (b : Bool) → (b || parent-stands rs (lookup cs (c .parent)) (c .node)) ≡ true → (b || parent-stands rs (lookup ds (c .parent)) (c .node)) ≡ true
@@ -80,17 +80,17 @@ pub fewer-lawful : (T : ℕ) (a : List ℕ) (i : ℕ) → i < length a → (b : 
 fewer-lawful T a i h true e = lawful-all T a (λ k l. omega (arith, lawful-at T (raised a i) e k l, A-one a i k h))
 fewer-lawful T a i h false e = e
 
-on-site : (rs : List Record) (s : ℕ) (c : Call) → on rs s c ≡ true → site-of rs (c .node) ≡ s
-unfolding on
+on-site : (rs : List Record) (s : ℕ) (c : Call) → is-on rs s c ≡ true → site-of rs (c .node) ≡ s
+unfolding is-on
 on-site rs s c e = eqb-true (site-of rs (c .node)) s e
 
 pub active-site : (rs : List Record) (s : ℕ) (c : Call) → active-on rs s c ≡ true → (site-of rs (c .node) ≡ s) × (c .active ≡ true)
 unfolding active-on
-active-site rs s c e = (on-site rs s c (and-left (on rs s c) (c .active) e), and-right (on rs s c) (c .active) e)
+active-site rs s c e = (on-site rs s c (and-left (is-on rs s c) (c .active) e), and-right (is-on rs s c) (c .active) e)
 
 pub waits-site : (rs : List Record) (s : ℕ) (c : Call) → waits-on rs s c ≡ true → (site-of rs (c .node) ≡ s) × (c .active ≡ false)
 unfolding waits-on
-waits-site rs s c e = (on-site rs s c (and-left (on rs s c) (not (c .active)) e), go (c .active) (and-right (on rs s c) (not (c .active)) e))
+waits-site rs s c e = (on-site rs s c (and-left (is-on rs s c) (not (c .active)) e), go (c .active) (and-right (is-on rs s c) (not (c .active)) e))
   where
     go : (b : Bool) → not b ≡ true → b ≡ false
     go true h = absurd (never-both {b = false} h refl)
@@ -259,7 +259,7 @@ module _ (rs : List Record) (cs : List Call) (f : Firm rs cs) (s : ℕ) where
       go (some c) e =
           let w = to-wake-fits c e in
           rw (counts-woken rs r (f .pass) (may-wake rs cs s) cs c e (w .2))
-          (more-lawful rs cs (f .pass) (f .law) (c .node) r (f .known c (w .0)) (w .3) (on rs r c) (on-site rs r c))
+          (more-lawful rs cs (f .pass) (f .law) (c .node) r (f .known c (w .0)) (w .3) (is-on rs r c) (on-site rs r c))
 
   pub woken-firm : Firm rs (woken rs cs s)
   unfolding woken parent-kept

@@ -12,15 +12,15 @@ use mathlib.Core.Option.{Option, none, some}
 use lib.Dec.{eqb}
 use borrow.Author.Tests.{eqb-true, eq-eqb}
 use Rattle.ids.specs.Limits.{no-ticket}
-use Rattle.lists.proofs.CountLaws.{decided, and-right}
+use Rattle.lists.proofs.CountLaws.{true-or-false, and-right}
 use Rattle.lists.proofs.PickLaws.{only-one, found-in, found-some, count-some, any-some}
 use Rattle.model.specs.Graph.{Depends, by-call, stay, go}
-use Rattle.model.specs.Plan.{calls, site-steps}
+use Rattle.model.specs.Plan.{has-edge, site-steps}
 use Rattle.model.specs.Reading.{PlanOk}
 use Rattle.model.specs.Net.{Call, Core, site-of, level-of, has, lookup, is-open, is-active, is-child, has-child, active-on}
 use Rattle.model.specs.Command.{return, return-tests, fault}
 use Rattle.model.specs.NetRules.{Keeps, parent-stands, parent-kept}
-use Rattle.model.proofs.GraphLaws.{yes, or-right}
+use Rattle.model.proofs.GraphLaws.{yes, or-by-right}
 use Rattle.model.proofs.TestLaws.{first-fault-is}
 use Rattle.model.proofs.PlaceLaws.{known-listed, site-step}
 use Rattle.model.proofs.AdmitLaws.{blocker}
@@ -56,16 +56,16 @@ module _ (net : Core) (k : Keeps net) where
   ticket-not-0 c m e = omega (arith, k .no-ticket-0, count-some (has no-ticket) (net .calls) c m (eq-eqb (c .ticket) no-ticket e))
 
   -- a child's call follows an edge of the plan
-  child-edge : (c e : Call) → List·Memᴰ c (net .calls) → List·Memᴰ e (net .calls) → e .parent ≡ c .ticket → calls (net .plan) (c .node) (e .node) ≡ true
+  child-edge : (c e : Call) → List·Memᴰ c (net .calls) → List·Memᴰ e (net .calls) → e .parent ≡ c .ticket → has-edge (net .plan) (c .node) (e .node) ≡ true
   unfolding parent-kept
   child-edge c e m n q = at (eqb (e .parent) no-ticket) refl (k .parents-kept e n)
     where
       at : (b : Bool) → eqb (e .parent) no-ticket ≡ b → (b || parent-stands (net .plan) (lookup (net .calls) (e .parent)) (e .node)) ≡ true
-          → calls (net .plan) (c .node) (e .node) ≡ true
+          → has-edge (net .plan) (c .node) (e .node) ≡ true
       at true z h = absurd (ticket-not-0 c m (sym q ∙ eqb-true (e .parent) no-ticket z))
       at false z h =
           let parent : lookup (net .calls) (e .parent) ≡ some c = ap (lookup (net .calls)) q ∙ found-by-ticket c m in
-          and-right (c .active) (calls (net .plan) (c .node) (e .node))
+          and-right (c .active) (has-edge (net .plan) (c .node) (e .node))
           (subst (λ (o : Option Call). parent-stands (net .plan) o (e .node) ≡ true) parent h)
 
   -- who holds back a call that waits
@@ -78,13 +78,13 @@ module _ (net : Core) (k : Keeps net) where
 
   -- from an active call with a child the search goes on at an active call on which its node depends
   abbrev Next-down : Call → Type 0
-  Next-down c = (d : Call) × List·Memᴰ d (net .calls) × (d .active ≡ true) × Depends (calls (net .plan)) (site-steps (net .plan)) (c .node) (d .node)
+  Next-down c = (d : Call) × List·Memᴰ d (net .calls) × (d .active ≡ true) × Depends (has-edge (net .plan)) (site-steps (net .plan)) (c .node) (d .node)
 
   next-down : (c : Call) → List·Memᴰ c (net .calls) → has-child (net .calls) (c .ticket) ≡ true → Next-down c
   unfolding has-child is-child
   next-down c m h =
       let child = any-some (is-child (c .ticket)) (net .calls) h in
-      at (child .0) (child .1) (eqb-true (child .0 .parent) (c .ticket) (child .2)) (decided (child .0 .active))
+      at (child .0) (child .1) (eqb-true (child .0 .parent) (c .ticket) (child .2)) (true-or-false (child .0 .active))
     where
       at : (e : Call) → List·Memᴰ e (net .calls) → e .parent ≡ c .ticket → (e .active ≡ true) ⊎ (e .active ≡ false) → Next-down c
       at e n q (inl a) = (e, n, a, by-call (yes (child-edge c e m n q)) stay)
@@ -99,7 +99,7 @@ module _ (net : Core) (k : Keeps net) where
             b .1,
             here .1,
             by-call (yes (child-edge c e m n q))
-                (go (or-right (calls (net .plan) (e .node) (d .node)) (site-steps (net .plan) (e .node) (d .node)) step-down) stay),
+                (go (or-by-right (has-edge (net .plan) (e .node) (d .node)) (site-steps (net .plan) (e .node) (d .node)) step-down) stay),
           )
 
   module _ (ok : PlanOk (net .plan)) where
@@ -112,7 +112,7 @@ module _ (net : Core) (k : Keeps net) where
         let falls = rank-falls (net .plan) ok (c .node) (w .0 .node) (known-listed (net .plan) (c .node) (k .nodes-known c m)) (w .3) in
         absurd (omega arith))
         (λ none. record { who = c; among = m; runs = a; childless = none })
-        (decided (has-child (net .calls) (c .ticket)))
+        (true-or-false (has-child (net .calls) (c .ticket)))
     search-down (suc fuel) c m a h =
         ⊎-elim
         (λ child.
@@ -120,7 +120,7 @@ module _ (net : Core) (k : Keeps net) where
         let falls = rank-falls (net .plan) ok (c .node) (w .0 .node) (known-listed (net .plan) (c .node) (k .nodes-known c m)) (w .3) in
         search-down fuel (w .0) (w .1) (w .2) (omega arith))
         (λ none. record { who = c; among = m; runs = a; childless = none })
-        (decided (has-child (net .calls) (c .ticket)))
+        (true-or-false (has-child (net .calls) (c .ticket)))
 
     -- where any call is open, some call is free
     pub somebody-free : (c : Call) → List·Memᴰ c (net .calls) → Free (net .calls)
@@ -131,7 +131,7 @@ module _ (net : Core) (k : Keeps net) where
         let b = holder c m w in
         let here = active-site (net .plan) (site-of (net .plan) (c .node)) (b .0) (b .2) in
         search-down (rank (net .plan) (b .0 .node)) (b .0) (b .1) (here .1) (le-refl (rank (net .plan) (b .0 .node))))
-        (decided (c .active))
+        (true-or-false (c .active))
 
   -- the return of a free call is accepted
   pub free-returns : (free : Free (net .calls)) → fault net (return (free .who .ticket)) ≡ 0

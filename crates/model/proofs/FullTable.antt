@@ -5,8 +5,8 @@ use mathlib.Core.Path.{_≡_, refl}
 use mathlib.Core.List.{List, [], _∷_}
 use Rattle.lists.specs.Pick.{any, found, without, changed}
 use Rattle.model.specs.Site.{A, lawful, raised, may-admit}
-use Rattle.model.specs.Plan.{threads, place, calls}
-use Rattle.model.specs.Net.{has-node, site-of, level-of, has, is-child, has-child, on, active-on, waits-on, counts, admissible, newcomer}
+use Rattle.model.specs.Plan.{threads, place, has-edge}
+use Rattle.model.specs.Net.{has-node, site-of, level-of, has, is-child, has-child, is-on, active-on, waits-on, counts, admissible, newcomer}
 use Rattle.model.specs.Net.{opened, closed, may-wake, to-wake, woken}
 use Rattle.model.specs.Command.{Command, start, return, refused, ended, waiting, fault, opening, serving, step, run, answers}
 use Rattle.model.specs.Useless.{small-net}
@@ -17,6 +17,6 @@ starts zero t = []
 starts (suc n) t = start t 0 ∷ starts n (suc t)
 
 pub full-table : answers (run small-net (starts 256 1)) (start 257 0 ∷ return 1 ∷ start 257 0 ∷ []) ≡ refused 26 ∷ ended 2 ∷ waiting ∷ []
-unfolding any found without changed A lawful raised may-admit threads place calls has-node site-of level-of has is-child has-child on active-on
+unfolding any found without changed A lawful raised may-admit threads place has-edge has-node site-of level-of has is-child has-child is-on active-on
     waits-on counts admissible newcomer opened closed may-wake to-wake woken fault opening serving step
 full-table = refl

@@ -23,13 +23,13 @@ pub or-cases : (a b : Bool) → T (a || b) → T a ⊎ T b
 or-cases true b h = inl tt
 or-cases false b h = inr h
 
-pub or-left : (a b : Bool) → T a → T (a || b)
-or-left true b h = tt
-or-left false b h = absurd h
+pub or-by-left : (a b : Bool) → T a → T (a || b)
+or-by-left true b h = tt
+or-by-left false b h = absurd h
 
-pub or-right : (a b : Bool) → T b → T (a || b)
-or-right true b h = tt
-or-right false b h = h
+pub or-by-right : (a b : Bool) → T b → T (a || b)
+or-by-right true b h = tt
+or-by-right false b h = h
 
 -- two paths, one after the other, are a path
 pub reach-join : {s : ℕ → ℕ → Bool} {n m l : ℕ} → Reach s n m → Reach s m l → Reach s n l
@@ -49,8 +49,8 @@ depends-more {c} {s} {d} {t} calls steps (by-call {n = n} {m = m} e p) = by-call
     each : (n m : ℕ) → T (either c s n m) → T (either d t n m)
     each n m h =
         ⊎-elim
-        (λ a. or-left (d n m) (t n m) (calls n m a))
-        (λ b. or-right (d n m) (t n m) (steps n m b))
+        (λ a. or-by-left (d n m) (t n m) (calls n m a))
+        (λ b. or-by-right (d n m) (t n m) (steps n m b))
         (or-cases (c n m) (s n m) h)
 depends-more calls steps (by-site {n = n} {m = m} e d) = by-site (steps n m e) (depends-more calls steps d)
 
@@ -75,13 +75,13 @@ module _ (s : ℕ → ℕ → Bool) where
 
   -- `via` holds from a node to itself
   pub via-stay : (ks : List ℕ) (n : ℕ) → T (via s ks n n)
-  via-stay [] n = or-left (eqb n n) (s n n) (eqb-refl n)
-  via-stay (k ∷ ks) n = or-left (via s ks n n) (via s ks n k && via s ks k n) (via-stay ks n)
+  via-stay [] n = or-by-left (eqb n n) (s n n) (eqb-refl n)
+  via-stay (k ∷ ks) n = or-by-left (via s ks n n) (via s ks n k && via s ks k n) (via-stay ks n)
 
   -- `via` holds along each step
   via-step : (ks : List ℕ) (n m : ℕ) → T (s n m) → T (via s ks n m)
-  via-step [] n m e = or-right (eqb n m) (s n m) e
-  via-step (k ∷ ks) n m e = or-left (via s ks n m) (via s ks n k && via s ks k m) (via-step ks n m e)
+  via-step [] n m e = or-by-right (eqb n m) (s n m) e
+  via-step (k ∷ ks) n m e = or-by-left (via s ks n m) (via s ks n k && via s ks k m) (via-step ks n m e)
 
   -- what leads to the first listed node, or away from it, does so by way of the others alone
   to-first : (k : ℕ) (ks : List ℕ) (n : ℕ) → T (via s (k ∷ ks) n k) → T (via s ks n k)
@@ -94,7 +94,7 @@ module _ (s : ℕ → ℕ → Bool) where
 
   -- by way of the first listed node
   by-first : (k : ℕ) (ks : List ℕ) (n m : ℕ) → T (via s ks n k) → T (via s ks k m) → T (via s (k ∷ ks) n m)
-  by-first k ks n m a b = or-right (via s ks n m) (via s ks n k && via s ks k m) (yes-and (via s ks n k) (via s ks k m) a b)
+  by-first k ks n m a b = or-by-right (via s ks n m) (via s ks n k && via s ks k m) (yes-and (via s ks n k) (via s ks k m) a b)
 
   -- `via` passes by each listed node: by the first as it is defined, by another in each of the four ways to come there and to go on
   via-join : (ks : List ℕ) (x : ℕ) → List·Memᴰ x ks → (n m : ℕ) → T (via s ks n x) → T (via s ks x m) → T (via s ks n m)
@@ -112,7 +112,7 @@ module _ (s : ℕ → ℕ → Bool) where
           ways (or-cases (via s ks n x) (via s ks n k && via s ks k x) a) (or-cases (via s ks x m) (via s ks x k && via s ks k m) b)
         where
           ways : T (via s ks n x) ⊎ T (via s ks n k && via s ks k x) → T (via s ks x m) ⊎ T (via s ks x k && via s ks k m) → T (via s (k ∷ ks) n m)
-          ways (inl to) (inl on) = or-left (via s ks n m) (via s ks n k && via s ks k m) (join n m to on)
+          ways (inl to) (inl on) = or-by-left (via s ks n m) (via s ks n k && via s ks k m) (join n m to on)
           ways (inl to) (inr on) =
               let on = and-yes (via s ks x k) (via s ks k m) on in
               by-first k ks n m (join n k to (on .0)) (on .1)
@@ -135,20 +135,20 @@ module _ (calls steps : ℕ → ℕ → Bool) where
   depends-edge (by-call {n = n} {m = m} e p) = (n, m, stay, e, p)
   depends-edge (by-site {n = n} {m = m} e d) =
       let found = depends-edge d in
-      (found .0, found .1, go (or-right (calls n m) (steps n m) e) (found .2), found .3, found .4)
+      (found .0, found .1, go (or-by-right (calls n m) (steps n m) e) (found .2), found .3, found .4)
 
   pub edge-depends : {n u v m : ℕ} → Reach (either calls steps) n u → T (calls u v) → Reach (either calls steps) v m → Depends calls steps n m
   edge-depends stay e q = by-call e q
   edge-depends {u = u} {v = v} (go {n = n} {m = x} d p) e q =
       ⊎-elim
-      (λ c. by-call c (reach-join p (go (or-left (calls u v) (steps u v) e) q)))
+      (λ c. by-call c (reach-join p (go (or-by-left (calls u v) (steps u v) e) q)))
       (λ w. by-site w (edge-depends p e q))
       (or-cases (calls n x) (steps n x) d)
 
   -- a dependence is a path, and with a path behind it a dependence
   pub depends-reach : {n m : ℕ} → Depends calls steps n m → Reach (either calls steps) n m
-  depends-reach (by-call {n = n} {m = m} e p) = go (or-left (calls n m) (steps n m) e) p
-  depends-reach (by-site {n = n} {m = m} e d) = go (or-right (calls n m) (steps n m) e) (depends-reach d)
+  depends-reach (by-call {n = n} {m = m} e p) = go (or-by-left (calls n m) (steps n m) e) p
+  depends-reach (by-site {n = n} {m = m} e d) = go (or-by-right (calls n m) (steps n m) e) (depends-reach d)
 
   pub depends-on : {n m l : ℕ} → Depends calls steps n m → Reach (either calls steps) m l → Depends calls steps n l
   depends-on (by-call e p) q = by-call e (reach-join p q)
@@ -167,7 +167,7 @@ module _ (calls steps : ℕ → ℕ → Bool) where
   module _ (none : (n m : ℕ) → T (steps n m) → ⊥) where
     -- with no step within a site, a path is one of call edges alone
     pub reach-calls : {n m : ℕ} → Reach (either calls steps) n m ↔ Reach calls n m
-    reach-calls = (reach-more call, reach-more (λ n m. or-left (calls n m) (steps n m)))
+    reach-calls = (reach-more call, reach-more (λ n m. or-by-left (calls n m) (steps n m)))
       where
         call : (n m : ℕ) → T (either calls steps n m) → T (calls n m)
         call n m h = ⊎-elim (λ c. c) (λ w. absurd (none n m w)) (or-cases (calls n m) (steps n m) h)

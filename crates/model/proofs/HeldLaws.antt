@@ -13,7 +13,7 @@ use lib.ListN.{length, getD, List·getD-eq-default}
 use borrow.Author.Tests.{eqb-true, eq-eqb, ne-eqb}
 use Rattle.lists.proofs.CountLaws.{lt-or-ge}
 use Rattle.ids.specs.Limits.{sites, nodes, most-edges}
-use Rattle.model.specs.Plan.{Record, site, node, edge, Place, push, threads, place, present, calls}
+use Rattle.model.specs.Plan.{Record, site, node, edge, Place, push, threads, place, present, has-edge}
 use Rattle.model.specs.PlanValue.{nowhere, somewhere, each, site-at, node-at, edge-at, edge-records, records-of, held}
 use Rattle.model.specs.declared.Plan.{Plan}
 
@@ -106,12 +106,12 @@ module _ (p : Plan) where
         (λ i qs l. skip-none look qs (site i (getD (p .threads) i 0)) (h i (getD (p .threads) i 0) qs) (eqb (getD (p .threads) i 0) 0))
 
   -- the call edges are those of the edge records
-  pub calls-of : (c d : ℕ) → calls (records-of p) c d ≡ calls (edge-records (p .callers) (p .callees) (min (p .edges) most-edges) []) c d
-  unfolding calls records-of
+  pub calls-of : (c d : ℕ) → has-edge (records-of p) c d ≡ has-edge (edge-records (p .callers) (p .callees) (min (p .edges) most-edges) []) c d
+  unfolding has-edge records-of
   calls-of c d = go (min (p .edges) most-edges)
     where
-      go : (k : ℕ) → calls (edge-records (p .callers) (p .callees) k its-nodes) c d ≡ calls (edge-records (p .callers) (p .callees) k []) c d
-      go zero = past-nodes (λ qs. calls qs c d) (λ n s l qs. refl) ∙ past-sites (λ qs. calls qs c d) (λ s t qs. refl)
+      go : (k : ℕ) → has-edge (edge-records (p .callers) (p .callees) k its-nodes) c d ≡ has-edge (edge-records (p .callers) (p .callees) k []) c d
+      go zero = past-nodes (λ qs. has-edge qs c d) (λ n s l qs. refl) ∙ past-sites (λ qs. has-edge qs c d) (λ s t qs. refl)
       go (suc k) = ap (λ (t : Bool). (eqb (getD (p .callers) k 0) c && eqb (getD (p .callees) k 0) d) || t) (go k)
 
   module _ (sized : Sized p) where

@@ -6,7 +6,7 @@ pub mod AnswerLaws
 pub mod GraphLaws
 pub mod TestLaws
 pub mod FaultLaws
-pub mod TurnLaws
+pub mod ScanLaws
 pub mod ReadingLaws
 pub mod EncodeLaws
 pub mod KindLaws
@@ -35,7 +35,6 @@ pub mod SameLaws
 pub mod Useless
 pub mod GivenLaws
 pub mod RefusalRows
-pub mod PublicLaws
 pub mod Demands
 pub mod AgreeLaws
 pub mod TranscriptLaws

@@ -16,7 +16,7 @@ use Rattle.lists.proofs.PickLaws.{count-some, count-more, count-fewer, count-wi
 use Rattle.lists.proofs.PickLaws.{found-in, found-none, found-some, found-more, found-last, found-without, found-changed, found-picked, in-without}
 use Rattle.lists.proofs.PickLaws.{changed-none, changed-there, none-changed, picked-more, picked-without, picked-changed, picked-apart, picked-all, all-picked}
 use Rattle.model.specs.Plan.{Record}
-use Rattle.model.specs.Net.{Call, has, lookup, is-child, has-child, on, waits-on, waiting-order, admissible, newcomer, opened, closed, may-wake}
+use Rattle.model.specs.Net.{Call, has, lookup, is-child, has-child, is-on, waits-on, waiting-order, admissible, newcomer, opened, closed, may-wake}
 use Rattle.model.specs.Net.{to-wake, activated, woken}
 use Rattle.model.proofs.FirmLaws.{waits-site}
 
@@ -60,7 +60,7 @@ module _ (rs : List Record) (cs : List Call) (s : ℕ) where
 
   awake : (r : ℕ) (c : Call) → waits-on rs r (activated c) ≡ false
   unfolding waits-on
-  awake r c = go (on rs r (activated c))
+  awake r c = go (is-on rs r (activated c))
     where
       go : (b : Bool) → (b && false) ≡ false
       go true = refl

@@ -10,7 +10,7 @@ use lib.ListN.{length, getD}
 use lib.Dec.{ltb, eqb}
 use lib.Seq.{getD-set-other}
 use borrow.Author.Tests.{lt-ltb, le-ltb, ltb-true, eqb-true, eqb-false}
-use Rattle.lists.proofs.CountLaws.{lt-or-ge, decided, and-left, and-right, and-both, same-test, never-both, first-le}
+use Rattle.lists.proofs.CountLaws.{lt-or-ge, true-or-false, and-left, and-right, and-both, same-test, never-both, first-le}
 use Rattle.model.specs.Site.{A, lawful, raised, may-admit, full, limit}
 use Rattle.model.specs.Paper.{φ, φ′, In-use}
 use Rattle.model.specs.Rule.{LIVE-P}
@@ -142,7 +142,7 @@ raised-in-use used T a i u asked =
           ⊎-elim
           (λ (e : eqb i k ≡ true). subst used (eqb-true i k e) asked)
           (λ (f : eqb i k ≡ false). u .active k (omega (arith, getD-set-other a i k (suc (getD a i 0)) 0 (λ e. eqb-false i k f (sym e)))))
-          (decided (eqb i k));
+          (true-or-false (eqb i k));
     }
 
 -- 01's "the site stays lawful with a[i] one larger", of a level in use, is the paper's φ′ᵢ over the levels in use: the guard of LIVE-P

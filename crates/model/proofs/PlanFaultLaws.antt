@@ -14,7 +14,7 @@ use Rattle.model.specs.Reading.{Ends, PlanOk}
 use Rattle.model.specs.PlanValue.{value, records-of}
 use Rattle.model.specs.PlanFault.{records-fault, fault-with, plan-fault, checked-plan}
 use Rattle.model.specs.declared.Plan.{Plan}
-use Rattle.model.proofs.TurnLaws.{passes-step}
+use Rattle.model.proofs.ScanLaws.{passes-step}
 use Rattle.model.proofs.RecordLaws.{passes-ok}
 use Rattle.model.proofs.PlanLaws.{plan-ok}
 use Rattle.model.proofs.PlanValueLaws.{edges-value, records-value}

@@ -13,11 +13,11 @@ use mir.Facts.{and-yes, yes-and}
 use borrow.Author.Tests.{eq-eqb}
 use Rattle.lists.proofs.CountLaws.{never-both, not-true-false}
 use Rattle.model.specs.Graph.{either, Depends, via}
-use Rattle.model.specs.Plan.{Record, node, edge, Place, nodes-of, edges-of, place, among, calls, six, passes, descends, site-steps, no-steps}
+use Rattle.model.specs.Plan.{Record, node, edge, Place, nodes-of, edges-of, place, among, has-edge, six, passes, descends, site-steps, no-steps}
 use Rattle.model.specs.Plan.{numbers, listed, some-backwards, closed-backwards, loops, self-depends, end-fault, encode}
 use Rattle.model.specs.Records.{RecordsOk}
 use Rattle.model.specs.Reading.{accepted, read, PlanOk}
-use Rattle.model.proofs.GraphLaws.{yes, is-true, or-cases, or-left, or-right, via-sound, via-complete, circle-edge}
+use Rattle.model.proofs.GraphLaws.{yes, is-true, or-cases, or-by-left, or-by-right, via-sound, via-complete, circle-edge}
 use Rattle.model.proofs.FaultLaws.{plan-sound}
 use Rattle.model.proofs.ReadingLaws.{read-accepts}
 use Rattle.model.proofs.KindLaws.{nodes-in, in-edges, edges-in}
@@ -44,16 +44,16 @@ module _ (c d : ℕ) where
       (λ (q : (c, d) ≡ e).
       let first = eq-eqb (e .0) c (sym (ap (λ (p : ℕ × ℕ). p .0) q)) in
       let second = eq-eqb (e .1) d (sym (ap (λ (p : ℕ × ℕ). p .1) q)) in
-      or-left (eqb (e .0) c && eqb (e .1) d) (among es c d) (yes-and (eqb (e .0) c) (eqb (e .1) d) (yes first) (yes second)))
-      (λ i. or-right (eqb (e .0) c && eqb (e .1) d) (among es c d) (in-among es i))
+      or-by-left (eqb (e .0) c && eqb (e .1) d) (among es c d) (yes-and (eqb (e .0) c) (eqb (e .1) d) (yes first) (yes second)))
+      (λ i. or-by-right (eqb (e .0) c && eqb (e .1) d) (among es c d) (in-among es i))
       (List·Memᴰ·cases-cons m)
 
-pub calls-listed : (rs : List Record) (c d : ℕ) → T (calls rs c d) → List·Memᴰ (edge c d) rs
-unfolding calls
+pub calls-listed : (rs : List Record) (c d : ℕ) → T (has-edge rs c d) → List·Memᴰ (edge c d) rs
+unfolding has-edge
 calls-listed rs c d h = in-edges rs (among-in c d (edges-of rs) h)
 
-pub listed-calls : (rs : List Record) (c d : ℕ) → List·Memᴰ (edge c d) rs → T (calls rs c d)
-unfolding calls
+pub listed-calls : (rs : List Record) (c d : ℕ) → List·Memᴰ (edge c d) rs → T (has-edge rs c d)
+unfolding has-edge
 listed-calls rs c d m = in-among c d (edges-of rs) (edges-in rs m)
 
 -- a node with a record is listed
@@ -70,7 +70,7 @@ unfolding listed
 node-listed rs n s l m = in-numbers (nodes-of rs) n (record { at = s; level = l }) (nodes-in rs m)
 
 -- the nodes of a call edge are listed, and so is the node where a step within a site ends
-pub call-nodes : (rs : List Record) → RecordsOk rs → (c d : ℕ) → T (calls rs c d) → List·Memᴰ c (listed rs) × List·Memᴰ d (listed rs)
+pub call-nodes : (rs : List Record) → RecordsOk rs → (c d : ℕ) → T (has-edge rs c d) → List·Memᴰ c (listed rs) × List·Memᴰ d (listed rs)
 call-nodes rs ok c d h =
     let w = ok .edge-nodes c d (calls-listed rs c d h) in
     (node-listed rs c (w .0 .0) (w .0 .1) (w .0 .2), node-listed rs d (w .1 .0) (w .1 .1) (w .1 .2))
@@ -99,46 +99,46 @@ module _ (step : ℕ → ℕ → Bool) (ns : List ℕ) where
   edge-some (e ∷ es) c d m h =
       ⊎-elim
       (λ (q : (c, d) ≡ e).
-      or-left (via step ns (e .1) (e .0)) (some-backwards step ns es)
+      or-by-left (via step ns (e .1) (e .0)) (some-backwards step ns es)
       (subst (λ (p : ℕ × ℕ). T (via step ns (p .1) (p .0))) q h))
-      (λ i. or-right (via step ns (e .1) (e .0)) (some-backwards step ns es) (edge-some es c d i h))
+      (λ i. or-by-right (via step ns (e .1) (e .0)) (some-backwards step ns es) (edge-some es c d i h))
       (List·Memᴰ·cases-cons m)
 
 -- Checks 7 and 8, over the steps within a site that each of them allows
 module _ (rs : List Record) (ok : RecordsOk rs) where
   module _ (steps : ℕ → ℕ → Bool) (inside : (n m : ℕ) → T (steps n m) → List·Memᴰ m (listed rs)) where
-    circle-is : (closed-backwards (either (calls rs) steps) (listed rs) rs ≡ true) ↔ ((n : ℕ) × Depends (calls rs) steps n n)
+    circle-is : (closed-backwards (either (has-edge rs) steps) (listed rs) rs ≡ true) ↔ ((n : ℕ) × Depends (has-edge rs) steps n n)
     unfolding closed-backwards
     circle-is = (from, into)
       where
         all : ℕ → ℕ → Bool
-        all = either (calls rs) steps
+        all = either (has-edge rs) steps
 
         ends : (n m : ℕ) → T (all n m) → List·Memᴰ m (listed rs)
-        ends n m h = ⊎-elim (λ a. call-nodes rs ok n m a .1) (λ b. inside n m b) (or-cases (calls rs n m) (steps n m) h)
+        ends n m h = ⊎-elim (λ a. call-nodes rs ok n m a .1) (λ b. inside n m b) (or-cases (has-edge rs n m) (steps n m) h)
 
-        from : some-backwards all (listed rs) (edges-of rs) ≡ true → (n : ℕ) × Depends (calls rs) steps n n
+        from : some-backwards all (listed rs) (edges-of rs) ≡ true → (n : ℕ) × Depends (has-edge rs) steps n n
         from e =
             let w = some-edge all (listed rs) (edges-of rs) (yes e) in
             let u = w .0 .0 in
             let v = w .0 .1 in
-            circle-edge (calls rs) steps .1 (u, v, listed-calls rs u v (in-edges rs (w .1)), via-sound all (listed rs) (w .2))
+            circle-edge (has-edge rs) steps .1 (u, v, listed-calls rs u v (in-edges rs (w .1)), via-sound all (listed rs) (w .2))
 
-        into : (n : ℕ) × Depends (calls rs) steps n n → some-backwards all (listed rs) (edges-of rs) ≡ true
+        into : (n : ℕ) × Depends (has-edge rs) steps n n → some-backwards all (listed rs) (edges-of rs) ≡ true
         into d =
-            let w = circle-edge (calls rs) steps .0 d in
+            let w = circle-edge (has-edge rs) steps .0 d in
             is-true (some-backwards all (listed rs) (edges-of rs))
             (edge-some all (listed rs) (edges-of rs) (w .0) (w .1)
             (edges-in rs (calls-listed rs (w .0) (w .1) (w .2)))
             (via-complete all (listed rs) ends (w .3)))
 
   -- "the call edges have a loop"
-  pub loops-is : (loops rs ≡ true) ↔ ((n : ℕ) × Depends (calls rs) no-steps n n)
+  pub loops-is : (loops rs ≡ true) ↔ ((n : ℕ) × Depends (has-edge rs) no-steps n n)
   unfolding loops
   loops-is = circle-is no-steps (λ n m h. absurd h)
 
   -- "some node depends on itself"
-  pub self-depends-is : (self-depends rs ≡ true) ↔ ((n : ℕ) × Depends (calls rs) (site-steps rs) n n)
+  pub self-depends-is : (self-depends rs ≡ true) ↔ ((n : ℕ) × Depends (has-edge rs) (site-steps rs) n n)
   unfolding self-depends
   self-depends-is = circle-is (site-steps rs) (step-node rs)
 

@@ -10,7 +10,7 @@ use Rattle.lists.specs.Pick.{count}
 use Rattle.lists.proofs.CountLaws.{not-true-false}
 use Rattle.lists.proofs.PickLaws.{count-less}
 use Rattle.model.specs.Graph.{either, Depends, via}
-use Rattle.model.specs.Plan.{Record, calls, six, site-steps, listed}
+use Rattle.model.specs.Plan.{Record, has-edge, six, site-steps, listed}
 use Rattle.model.specs.Reading.{PlanOk}
 use Rattle.model.proofs.GraphLaws.{yes, is-true, or-cases, reach-join, via-sound, via-stay, via-complete, depends-reach, depends-on}
 use Rattle.model.proofs.RecordLaws.{passes-ok}
@@ -18,16 +18,16 @@ use Rattle.model.proofs.PlanLaws.{call-nodes, step-node}
 
 module _ (rs : List Record) where
   abbrev edge-or-step : ℕ → ℕ → Bool
-  edge-or-step = either (calls rs) (site-steps rs)
+  edge-or-step = either (has-edge rs) (site-steps rs)
 
   unfoldable pub rank : ℕ → ℕ
   rank n = count (via edge-or-step (listed rs) n) (listed rs)
 
   module _ (ok : PlanOk rs) where
     ends : (n m : ℕ) → T (edge-or-step n m) → List·Memᴰ m (listed rs)
-    ends n m h = ⊎-elim (λ a. call-nodes rs (passes-ok six rs (ok .records)) n m a .1) (λ b. step-node rs n m b) (or-cases (calls rs n m) (site-steps rs n m) h)
+    ends n m h = ⊎-elim (λ a. call-nodes rs (passes-ok six rs (ok .records)) n m a .1) (λ b. step-node rs n m b) (or-cases (has-edge rs n m) (site-steps rs n m) h)
 
-    pub rank-falls : (n m : ℕ) → List·Memᴰ n (listed rs) → Depends (calls rs) (site-steps rs) n m → rank m < rank n
+    pub rank-falls : (n m : ℕ) → List·Memᴰ n (listed rs) → Depends (has-edge rs) (site-steps rs) n m → rank m < rank n
     unfolding rank
     rank-falls n m here d =
         count-less (via edge-or-step (listed rs) m) (via edge-or-step (listed rs) n) (listed rs) more n here itself
@@ -37,9 +37,9 @@ module _ (rs : List Record) where
         more x i e =
             is-true (via edge-or-step (listed rs) n x)
             (via-complete edge-or-step (listed rs) ends
-            (reach-join (depends-reach (calls rs) (site-steps rs) d) (via-sound edge-or-step (listed rs) (yes e))))
+            (reach-join (depends-reach (has-edge rs) (site-steps rs) d) (via-sound edge-or-step (listed rs) (yes e))))
 
         itself : via edge-or-step (listed rs) m n ≡ false
         itself =
             not-true-false (via edge-or-step (listed rs) m n)
-            (λ e. ok .acyclic n (depends-on (calls rs) (site-steps rs) d (via-sound edge-or-step (listed rs) (yes e))))
+            (λ e. ok .acyclic n (depends-on (has-edge rs) (site-steps rs) d (via-sound edge-or-step (listed rs) (yes e))))

@@ -14,7 +14,7 @@ use Rattle.model.specs.Plan.{Record, Levels, record-fault, passes, plan-
 use Rattle.model.specs.Reading.{accepted, refused-at, Ends, unchecked, decoded, finish, keep, take-in, reading-by, read-on, read-with, end-checked}
 use Rattle.model.specs.Faults.{fault-at}
 use Rattle.model.proofs.FaultLaws.{next-end}
-use Rattle.model.proofs.TurnLaws.{stops-at, accepts, read-through, Ended, each-ends}
+use Rattle.model.proofs.ScanLaws.{stops-at, accepts, read-through, Ended, each-ends}
 
 -- The reading of a plan, whatever the tests of its levels and the checks at its end record
 

@@ -17,7 +17,7 @@ use Rattle.model.specs.Records.{kind, Rises, Rising, Listed, RecordsOk, 
 use Rattle.model.proofs.KindLaws.{never-falls, follows-all, all-follows, past, rises-number, site-only, node-only, in-sites, sites-in}
 use Rattle.model.proofs.KindLaws.{in-nodes, nodes-in, Falling, entry-in, in-entry, falling}
 use Rattle.model.proofs.TestLaws.{record-sound}
-use Rattle.model.proofs.TurnLaws.{passes-step}
+use Rattle.model.proofs.ScanLaws.{passes-step}
 
 -- Lookups find what is listed
 

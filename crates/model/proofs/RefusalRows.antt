@@ -12,9 +12,9 @@ use lib.Dec.{eqb, ltb}
 use borrow.Author.Tests.{eqb-true, eq-eqb, ltb-false, le-ltb}
 use Rattle.ids.specs.Limits.{no-ticket, most-open}
 use Rattle.lists.specs.Pick.{any}
-use Rattle.lists.proofs.CountLaws.{decided, never-both, not-true-false}
+use Rattle.lists.proofs.CountLaws.{true-or-false, never-both, not-true-false}
 use Rattle.lists.proofs.PickLaws.{found-in, any-some, any-none}
-use Rattle.model.specs.Plan.{Record, edge, calls, present, six}
+use Rattle.model.specs.Plan.{Record, edge, has-edge, present, six}
 use Rattle.model.specs.Records.{Listed}
 use Rattle.model.specs.Faults.{Given}
 use Rattle.model.specs.Net.{Call, Core, has-node, has, lookup, is-open, is-active, node-of, is-child, has-child}
@@ -111,21 +111,21 @@ module _ (net : Core) (k : Keeps net) where
 
   -- of a parent that is open
   no-edge : (parent n : ℕ) → is-open (lookup cs parent) ≡ true
-      → (calls rs (node-of (lookup cs parent)) n ≡ false) ↔ ((c : Call) → List·Memᴰ c cs → c .ticket ≡ parent → List·Memᴰ (edge (c .node) n) rs → ⊥)
+      → (has-edge rs (node-of (lookup cs parent)) n ≡ false) ↔ ((c : Call) → List·Memᴰ c cs → c .ticket ≡ parent → List·Memᴰ (edge (c .node) n) rs → ⊥)
   unfolding has
   no-edge parent n e = (from, λ h. into h (lookup cs parent) refl e)
     where
-      from : calls rs (node-of (lookup cs parent)) n ≡ false → (c : Call) → List·Memᴰ c cs → c .ticket ≡ parent → List·Memᴰ (edge (c .node) n) rs → ⊥
+      from : has-edge rs (node-of (lookup cs parent)) n ≡ false → (c : Call) → List·Memᴰ c cs → c .ticket ≡ parent → List·Memᴰ (edge (c .node) n) rs → ⊥
       from q c m t i =
           let here : lookup cs parent ≡ some c = ap (lookup cs) (sym t) ∙ found-by-ticket net k c m in
-          never-both (is-true (calls rs (c .node) n) (listed-calls rs (c .node) n i)) (sym (ap (λ (o : Option Call). calls rs (node-of o) n) here) ∙ q)
+          never-both (is-true (has-edge rs (c .node) n) (listed-calls rs (c .node) n i)) (sym (ap (λ (o : Option Call). has-edge rs (node-of o) n) here) ∙ q)
 
       into : ((c : Call) → List·Memᴰ c cs → c .ticket ≡ parent → List·Memᴰ (edge (c .node) n) rs → ⊥) → (o : Option Call) → lookup cs parent ≡ o
-          → is-open o ≡ true → calls rs (node-of o) n ≡ false
+          → is-open o ≡ true → has-edge rs (node-of o) n ≡ false
       into h none q e = absurd (never-both {b = false} e refl)
       into h (some c) q e =
           let w = found-in (has parent) cs c q in
-          not-true-false (calls rs (c .node) n) (λ i. h c (w .0) (eqb-true (c .ticket) parent (w .1)) (calls-listed rs (c .node) n (yes i)))
+          not-true-false (has-edge rs (c .node) n) (λ i. h c (w .0) (eqb-true (c .ticket) parent (w .1)) (calls-listed rs (c .node) n (yes i)))
 
   full : (ltb (length cs) most-open ≡ false) ↔ (length cs ≡ most-open)
   full = ((λ e. omega (arith, ltb-false (length cs) most-open e, k .few-open)), (λ e. le-ltb (length cs) most-open (omega arith)))
@@ -142,7 +142,7 @@ module _ (net : Core) (k : Keeps net) where
           ⊎-elim
           (λ e. e)
           (λ e. absurd (never-both (eq-eqb (w .0 .parent) ticket (w .2)) (any-none (is-child ticket) cs e (w .0) (w .1))))
-          (decided (any (is-child ticket) cs))
+          (true-or-false (any (is-child ticket) cs))
 
   no-number : (ticket : ℕ) → (not (eqb ticket no-ticket) ≡ false) ↔ (ticket ≡ no-ticket)
   no-number ticket = (

@@ -13,7 +13,7 @@ use borrow.Author.Tests.{lt-ltb, ltb-true}
 use Rattle.lists.proofs.CountLaws.{lt-or-ge, and-left, and-right, and-both, same-test, never-both, first-le, first-holds, first-before}
 use Rattle.model.specs.Site.{A, lawful, raised, put, may-admit, full, limit}
 use Rattle.model.specs.Rule.{Rule, LIVE-P, Blocked, Sound, From}
-use Rattle.model.proofs.SiteLaws.{A-raised, A-kept, A-down, between, lawful-at, lawful-all, full-is, is-full, raised-length}
+use Rattle.model.proofs.SiteLaws.{A-raised, A-kept, A-down, level-between, lawful-at, lawful-all, full-is, is-full, raised-length}
 
 -- a call put in is counted at its level and at each lower one
 pub put-counts : (b : List ℕ) (i : ℕ) (ins : List ℕ) → From i (length b) ins → (k : ℕ) → k ≤ i → A (put b ins) k ≡ A b k + length ins
@@ -48,7 +48,7 @@ module _ (rule : Rule) (sound : Sound rule) where
   B T a i below law within b =
       let n = sound .near i (b .0) (b .1) (b .2) in
       let k≤ : b .0 ≤ suc i = omega (arith, n .0, n .1) in
-      let w = between a (b .0) (suc i - b .0) (subst (λ (m : ℕ). A a m < A a (b .0)) (sym (add-sub-of-le k≤)) (fewer (n .1))) in
+      let w = level-between a (b .0) (suc i - b .0) (subst (λ (m : ℕ). A a m < A a (b .0)) (sym (add-sub-of-le k≤)) (fewer (n .1))) in
       (w .0, omega (arith, w .2, add-sub-of-le k≤), w .3)
     where
       fewer : b .1 ≤ i → A a (suc i) < A a (b .0)

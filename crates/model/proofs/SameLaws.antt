@@ -13,7 +13,7 @@ use borrow.Author.Tests.{eqb-true, eq-eqb, eqb-false}
 use Rattle.ids.specs.Limits.{no-ticket}
 use Rattle.lists.specs.Count.{one}
 use Rattle.lists.specs.Pick.{count, found, without, changed}
-use Rattle.lists.proofs.CountLaws.{decided, never-both, and-left, and-right, and-both}
+use Rattle.lists.proofs.CountLaws.{true-or-false, never-both, and-left, and-right, and-both}
 use Rattle.lists.proofs.PickLaws.{count-all, count-none, count-some, some-counted, count-more, count-without, count-changed, changed-none, found-in}
 use Rattle.lists.proofs.PickLaws.{found-none, found-alike, only-one}
 use Rattle.model.specs.Plan.{Record, threads, six, passes}
@@ -21,7 +21,7 @@ use Rattle.model.specs.Site.{may-admit, room}
 use Rattle.model.specs.Net.{Call, Core, site-of, level-of, has, lookup, ticket-of, has-child, counts, waiting-order, admissible, newcomer}
 use Rattle.model.specs.Net.{opened, closed, may-wake, to-wake, activated, woken}
 use Rattle.model.specs.Command.{Command, start, call, return, refused, active, waiting, ended, fault, opening, serving, done, step, run, ask}
-use Rattle.model.specs.Command.{standing, has-room, no-answer, room-at}
+use Rattle.model.specs.Command.{standing, has-room, room-refused, room-at}
 use Rattle.model.specs.NetRules.{Keeps}
 use Rattle.model.specs.Steady.{Ending}
 use Rattle.model.specs.Same.{Same}
@@ -116,7 +116,7 @@ module _ (rs : List Record) (cs ds : List Call) (alike : Alike cs ds) (orders : 
             omega (arith, count-changed activated (may-wake rs cs s) f cs c e, count-changed activated (may-wake rs ds s) f ds c e′, alike f)
 
     woken-orders : (s r : ℕ) → waiting-order rs (woken rs cs s) r ≡ waiting-order rs (woken rs ds s) r
-    woken-orders s r = ⊎-elim here there (decided (eqb s r))
+    woken-orders s r = ⊎-elim here there (true-or-false (eqb s r))
       where
         test-same : without (λ c. admissible rs cs (c .node)) (waiting-order rs cs s) ≡ without (λ c. admissible rs ds (c .node)) (waiting-order rs ds s)
         test-same = simp (admissible-same, orders)
@@ -249,7 +249,7 @@ module _ (rs : List Record) (cs ds : List Call) (k : Keeps (net-of rs cs)) (l : 
       let apart = eqb-false (fault (net-of rs cs) c) 0 e in
       rw (refused-step (net-of rs cs) c apart, refused-step (net-of rs ds) c (λ q. apart (fault-same c ∙ q)))
       (ap refused (fault-same c), record { plans = refl; calls = alike; orders = orders }))
-      (decided (eqb (fault (net-of rs cs) c) 0))
+      (true-or-false (eqb (fault (net-of rs cs) c) 0))
 
 -- nets that differ in the places of their calls alone answer every command alike, and differ in no more afterwards
 pub step-same : (a b : Core) → Keeps a → Keeps b → Same a b → (c : Command)
@@ -282,7 +282,7 @@ module _ (a b : Core) (k : Keeps a) (l : Keeps b) (same : Same a b) where
   unfolding room-at
   room-same s j =
       subst (λ (p : List Record). room-at a s j ≡ room-at (net-of p (b .calls)) s j) (same .plans)
-      (ap (λ (c : List ℕ). cond (not (eqb (threads (a .plan) s) 0) && ltb j (threads (a .plan) s)) (has-room (room (threads (a .plan) s) c j)) (no-answer 30))
+      (ap (λ (c : List ℕ). cond (not (eqb (threads (a .plan) s) 0) && ltb j (threads (a .plan) s)) (has-room (room (threads (a .plan) s) c j)) (room-refused 30))
       (counts-alike (a .plan) s (k .plan-passes) (b .calls) (a .calls) (λ i. same .calls (of-level (a .plan) s i))))
 
 -- it is an equivalence

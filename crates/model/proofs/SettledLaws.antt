@@ -12,12 +12,12 @@ use lib.ListN.{length}
 use lib.Dec.{leb, eqb}
 use borrow.Author.Tests.{eqb-true, eqb-false, eq-eqb, ne-eqb}
 use Rattle.lists.specs.Pick.{changed}
-use Rattle.lists.proofs.CountLaws.{decided, never-both, lt-or-ge}
+use Rattle.lists.proofs.CountLaws.{true-or-false, never-both, lt-or-ge}
 use Rattle.lists.proofs.PickLaws.{one-most, found-none, changed-none}
 use Rattle.model.specs.Site.{A, raised}
 use Rattle.model.specs.Rule.{Blocked}
 use Rattle.model.specs.Plan.{Record, threads}
-use Rattle.model.specs.Net.{Call, has-node, site-of, level-of, has, on, active-on, waits-on, counts, admissible, newcomer, opened, closed}
+use Rattle.model.specs.Net.{Call, has-node, site-of, level-of, has, is-on, active-on, waits-on, counts, admissible, newcomer, opened, closed}
 use Rattle.model.specs.Net.{may-wake, to-wake, activated, woken}
 use Rattle.model.specs.NetRules.{could-go}
 use Rattle.model.specs.Steady.{Firm, Newcomer, Ending}
@@ -105,8 +105,8 @@ module _ (rs : List Record) (cs : List Call) (f : Firm rs cs) (settled : Settled
 
   -- Elsewhere nothing has changed
 
-  not-there : (s : ℕ) (c : Call) → (site-of rs (c .node) ≡ s → ⊥) → on rs s c ≡ false
-  unfolding on
+  not-there : (s : ℕ) (c : Call) → (site-of rs (c .node) ≡ s → ⊥) → is-on rs s c ≡ false
+  unfolding is-on
   not-there s c apart = ne-eqb (site-of rs (c .node)) s apart
 
   elsewhere : (s : ℕ) → (here ≡ s → ⊥) → counts rs (woken rs left here) s ≡ counts rs cs s
@@ -129,7 +129,7 @@ module _ (rs : List Record) (cs : List Call) (f : Firm rs cs) (settled : Settled
 
   nobody-left : to-wake rs left here ≡ none → (c : Call) → List·Memᴰ c left → c .active ≡ false → site-of rs (c .node) ≡ here
       → admissible rs (woken rs left here) (c .node) ≡ false
-  unfolding to-wake woken may-wake waits-on on
+  unfolding to-wake woken may-wake waits-on is-on
   nobody-left e c m w same =
       rw (changed-none activated (may-wake rs left here) left e) (go (admissible rs left (c .node)) refl)
     where
@@ -162,7 +162,7 @@ module _ (rs : List Record) (cs : List Call) (f : Firm rs cs) (settled : Settled
         go false = omega arith
 
     counts-here : counts rs (woken rs left here) here ≡ raised (counts rs left here) (level-of rs (d .node))
-    unfolding woken to-wake on
+    unfolding woken to-wake is-on
     counts-here =
         let w = to-wake-fits rs left left-firm here d chosen in
         counts-woken rs here (f .pass) (may-wake rs left here) left d chosen (w .2)
@@ -208,7 +208,7 @@ module _ (rs : List Record) (cs : List Call) (f : Firm rs cs) (settled : Settled
   pub returned-settled : Settled rs (woken rs left here)
   returned-settled c m =
       in-woken rs left left-firm here c m (λ d. could-go rs (woken rs left here) d ≡ false)
-      (λ d i. held-waits rs (woken rs left here) d (λ w. at-site d i w (decided (eqb here (site-of rs (d .node))))))
+      (λ d i. held-waits rs (woken rs left here) d (λ w. at-site d i w (true-or-false (eqb here (site-of rs (d .node))))))
       (λ d e. held-waits rs (woken rs left here) (activated d) (λ w. absurd (never-both {b = true} refl w)))
     where
       at-site : (d : Call) → List·Memᴰ d left → d .active ≡ false

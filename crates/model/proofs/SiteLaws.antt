@@ -51,11 +51,11 @@ pub A-down : (a : List ℕ) (k m : ℕ) → k ≤ m → A a m ≤ A a k
 A-down a k m h = subst (λ (j : ℕ). A a j ≤ A a k) (add-sub-of-le h) (A-falls a k (m - k))
 
 -- where more calls stand at or above k than at or above a higher level, one of them has a level between
-pub between : (a : List ℕ) (k n : ℕ) → A a (k + n) < A a k → (j : ℕ) × (k ≤ j) × (j < k + n) × (1 ≤ getD a j 0)
-between a k zero h = absurd (omega (arith, ap (A a) (add-zero k)))
-between a k (suc n) h =
+pub level-between : (a : List ℕ) (k n : ℕ) → A a (k + n) < A a k → (j : ℕ) × (k ≤ j) × (j < k + n) × (1 ≤ getD a j 0)
+level-between a k zero h = absurd (omega (arith, ap (A a) (add-zero k)))
+level-between a k (suc n) h =
     ⊎-elim
-    (λ (p : A a (k + n) < A a k). let w = between a k n p in (w .0, w .1, omega (arith, w .2), w .3))
+    (λ (p : A a (k + n) < A a k). let w = level-between a k n p in (w .0, w .1, omega (arith, w .2), w .3))
     (λ (p : A a k ≤ A a (k + n)). (k + n, omega arith, omega arith, omega (arith, A-step a (k + n), ap (A a) (add-suc k n))))
     (lt-or-ge (A a (k + n)) (A a k))
 

@@ -12,11 +12,11 @@ use lib.Dec.{eqb}
 use borrow.Author.Tests.{eqb-true, eqb-false, ltb-true, not-true, eq-eqb}
 use Rattle.ids.specs.Limits.{no-ticket, most-open}
 use Rattle.lists.specs.Pick.{count, found}
-use Rattle.lists.proofs.CountLaws.{decided, never-both, and-both}
-use Rattle.model.specs.Plan.{Record, threads, calls, six, passes}
+use Rattle.lists.proofs.CountLaws.{true-or-false, never-both, and-both}
+use Rattle.model.specs.Plan.{Record, threads, has-edge, six, passes}
 use Rattle.model.specs.Net.{Call, Core, empty-net, site-of, lookup, is-open, is-active, node-of, has-child, counts, opened, closed, woken}
 use Rattle.model.specs.Command.{Command, start, call, return, refused, active, start-tests, call-tests, return-tests, fault, Outcome, opening}
-use Rattle.model.specs.Command.{serving, done, decided as settled-by, step, run}
+use Rattle.model.specs.Command.{serving, done, decided, step, run}
 use Rattle.model.specs.NetRules.{Keeps, parent-stands}
 use Rattle.model.specs.Steady.{Firm, Newcomer, Ending}
 use Rattle.model.proofs.SiteLaws.{lawful-all}
@@ -36,7 +36,7 @@ pub refused-step : (net : Core) (c : Command) → (fault net c ≡ 0 → ⊥) �
 unfolding step
 refused-step net c apart = go (eqb (fault net c) 0) refl
   where
-    go : (b : Bool) → eqb (fault net c) 0 ≡ b → settled-by b net c ≡ record { core = net; answer = refused (fault net c) }
+    go : (b : Bool) → eqb (fault net c) 0 ≡ b → decided b net c ≡ record { core = net; answer = refused (fault net c) }
     go true e = absurd (apart (eqb-true (fault net c) 0 e))
     go false e = refl
 
@@ -86,10 +86,10 @@ module _ (net : Core) where
         parent-fits = go (lookup cs parent) (late .0) (late .1 .1 .0) (eqb parent no-ticket);
       }
     where
-      go : (o : Option Call) → is-active o ≡ true → calls rs (node-of o) node ≡ true → (b : Bool) → (b || parent-stands rs o node) ≡ true
+      go : (o : Option Call) → is-active o ≡ true → has-edge rs (node-of o) node ≡ true → (b : Bool) → (b || parent-stands rs o node) ≡ true
       go none a e b = absurd (never-both {b = false} a refl)
       go (some p) a e true = refl
-      go (some p) a e false = and-both (p .active) (calls rs (p .node) node) a e
+      go (some p) a e false = and-both (p .active) (has-edge rs (p .node) node) a e
 
   pub return-fits : (ticket : ℕ) → fault net (return ticket) ≡ 0 → (c : Call) × Ending cs ticket c
   unfolding fault
@@ -149,7 +149,7 @@ step-keeps net k c =
     ⊎-elim
     (λ e. rw (accepted-step net c (eqb-true (fault net c) 0 e)) (accepted-keeps net k c (eqb-true (fault net c) 0 e)))
     (λ e. rw (refused-step net c (eqb-false (fault net c) 0 e)) k)
-    (decided (eqb (fault net c) 0))
+    (true-or-false (eqb (fault net c) 0))
 
 pub run-keeps : (net : Core) → Keeps net → (commands : List Command) → Keeps (run net commands)
 run-keeps net k [] = k
@@ -178,7 +178,7 @@ step-plan net c =
     ⊎-elim
     (λ e. ap (λ (o : Outcome). o .core .plan) (accepted-step net c (eqb-true (fault net c) 0 e)) ∙ same c)
     (λ e. ap (λ (o : Outcome). o .core .plan) (refused-step net c (eqb-false (fault net c) 0 e)))
-    (decided (eqb (fault net c) 0))
+    (true-or-false (eqb (fault net c) 0))
   where
     same : (d : Command) → done net d .core .plan ≡ net .plan
     same (start ticket node) = refl

@@ -13,11 +13,11 @@ use borrow.Author.Tests.{eqb-true, eqb-false, ne-eqb}
 use Rattle.ids.specs.Limits.{no-ticket}
 use Rattle.lists.specs.Count.{one}
 use Rattle.lists.specs.Pick.{count, without}
-use Rattle.lists.proofs.CountLaws.{decided}
+use Rattle.lists.proofs.CountLaws.{true-or-false}
 use Rattle.lists.proofs.PickLaws.{count-more, count-without, count-changed, changed-none, in-without, length-without, length-changed}
 use Rattle.model.specs.Plan.{Record, six, passes}
 use Rattle.model.specs.Reading.{PlanOk}
-use Rattle.model.specs.Net.{Call, Core, empty-net, site-of, has, lookup, node-of, ticket-of, on, active-on, admissible, newcomer, opened}
+use Rattle.model.specs.Net.{Call, Core, empty-net, site-of, has, lookup, node-of, ticket-of, is-on, active-on, admissible, newcomer, opened}
 use Rattle.model.specs.Net.{closed, may-wake, to-wake, activated, woken}
 use Rattle.model.specs.Command.{Command, start, call, return, Answer, refused, active, waiting, fault, Outcome, opening, serving, done, step, run}
 use Rattle.model.specs.NetRules.{Keeps}
@@ -44,7 +44,7 @@ Balanced rs s here cs o =
 
 opening-balanced : (rs : List Record) (cs : List Call) (s parent ticket node : ℕ)
     → Balanced rs s (eqb (site-of rs node) s) cs (opening rs cs parent ticket node)
-unfolding Balanced opening opened active-on on newcomer
+unfolding Balanced opening opened active-on is-on newcomer
 opening-balanced rs cs s parent ticket node =
     omega (arith, count-more (active-on rs s) cs (newcomer rs cs parent ticket node), go (admissible rs cs node))
   where
@@ -66,7 +66,7 @@ module _ (net : Core) (k : Keeps net) (ticket : ℕ) (gone : Call) (end : Ending
   home = site-of rs (gone .node)
 
   thread-back : count (active-on rs s) (net .calls) ≡ one (eqb home s) + count (active-on rs s) left
-  unfolding closed active-on on
+  unfolding closed active-on is-on
   thread-back = omega (arith, count-without (has ticket) (active-on rs s) (net .calls) gone (end .stands), go (eqb home s))
     where
       go : (b : Bool) → one (b && gone .active) ≡ one b
@@ -78,7 +78,7 @@ module _ (net : Core) (k : Keeps net) (ticket : ℕ) (gone : Call) (end : Ending
 
   woken-one : (o : Option Call) → to-wake rs left home ≡ o
       → count (active-on rs s) (woken rs left home) ≡ count (active-on rs s) left + one (eqb home s && not (eqb (ticket-of o) no-ticket))
-  unfolding to-wake woken active-on on closed
+  unfolding to-wake woken active-on is-on closed
   woken-one none e = omega (arith, ap (count (active-on rs s)) (changed-none activated (may-wake rs left home) left e), never (eqb home s))
   woken-one (some d) e =
       let f = closed-firm rs (net .calls) (keeps-firm net k) ticket gone end in
@@ -110,7 +110,7 @@ step-balanced net k c s =
     ⊎-elim
     (λ e. let fine = eqb-true (fault net c) 0 e in rw (accepted-step net c fine) (accepted c fine))
     (λ e. rw (refused-step net c (eqb-false (fault net c) 0 e)) (refused-balanced net s (eqb (command-site net c) s) (fault net c)))
-    (decided (eqb (fault net c) 0))
+    (true-or-false (eqb (fault net c) 0))
   where
     accepted : (d : Command) → fault net d ≡ 0 → Balanced (net .plan) s (eqb (command-site net d) s) (net .calls) (done net d)
     accepted (start ticket node) e = opening-balanced (net .plan) (net .calls) s no-ticket ticket node

@@ -6,8 +6,8 @@ use mathlib.Core.Path.{_≡_, refl, sym, _∙_}
 use mathlib.Core.List.{[], _∷_}
 use Rattle.lists.specs.Pick.{any, found, without, changed}
 use Rattle.model.specs.Site.{A, lawful, raised, may-admit}
-use Rattle.model.specs.Plan.{threads, place, calls}
-use Rattle.model.specs.Net.{has-node, site-of, level-of, has, on, active-on, counts, admissible, newcomer, opened}
+use Rattle.model.specs.Plan.{threads, place, has-edge}
+use Rattle.model.specs.Net.{has-node, site-of, level-of, has, is-on, active-on, counts, admissible, newcomer, opened}
 use Rattle.model.specs.Command.{Command, start, refused, active, waiting, fault, opening, step, answers}
 use Rattle.model.specs.Useless.{refusing, always-active, forgetful, pretending, small-net, two-starts}
 
@@ -16,7 +16,7 @@ evaluated :
     (answers small-net two-starts ≡ active ∷ waiting ∷ [])
     × (forgetful small-net two-starts ≡ active ∷ active ∷ [])
     × (pretending small-net two-starts ≡ active ∷ active ∷ [])
-unfolding any found without changed A lawful raised may-admit threads place calls has-node site-of level-of has on active-on counts admissible newcomer opened
+unfolding any found without changed A lawful raised may-admit threads place has-edge has-node site-of level-of has is-on active-on counts admissible newcomer opened
     fault opening step
 evaluated = (refl, refl, refl)
 

@@ -9,7 +9,7 @@ use lib.Dec.{ltb, eqb}
 use Rattle.ids.specs.Limits.{no-ticket, most-open}
 use Rattle.ids.specs.Made.{Told}
 use Rattle.model.specs.Site.{room}
-use Rattle.model.specs.Plan.{Record, threads, calls, first-fault}
+use Rattle.model.specs.Plan.{Record, threads, has-edge, first-fault}
 use Rattle.model.specs.Net.{Call, Core, has-node, site-of, lookup, is-open, is-active, node-of, ticket-of, has-child, counts, admissible}
 use Rattle.model.specs.Net.{opened, closed, to-wake, woken}
 
@@ -55,7 +55,7 @@ call-tests rs cs parent ticket node =
     ∷ (is-open (lookup cs parent), 23)
     ∷ (is-active (lookup cs parent), 24)
     ∷ (has-node rs node, 22)
-    ∷ (calls rs (node-of (lookup cs parent)) node, 25)
+    ∷ (has-edge rs (node-of (lookup cs parent)) node, 25)
     ∷ (ltb (length cs) most-open, 26)
     ∷ []
 
@@ -143,15 +143,15 @@ ask net ticket = standing (lookup (net .calls) ticket)
 -- the status page's figure, or a refusal's number: of the net itself 30, "room asked of an unlisted site, or of a level not below its threads"
 pub data Roomed : Type 0 where
   has-room : ℕ → Roomed
-  no-answer : ℕ → Roomed
+  room-refused : ℕ → Roomed
 
 abbrev pub told-roomed : Roomed → Told
 told-roomed (has-room n) = 0 ∷ n ∷ []
-told-roomed (no-answer n) = n ∷ []
+told-roomed (room-refused n) = n ∷ []
 
 -- of a listed site it is what the site book answers (`room-agrees`, of AgreeLaws)
 unfoldable pub room-at : Core → ℕ → ℕ → Roomed
 room-at net s k =
     cond (not (eqb (threads (net .plan) s) 0) && ltb k (threads (net .plan) s))
     (has-room (room (threads (net .plan) s) (counts (net .plan) (net .calls) s) k))
-    (no-answer 30)
+    (room-refused 30)

@@ -13,7 +13,7 @@ use Rattle.model.specs.Site.{may-admit}
 use Rattle.model.specs.Plan.{Record, threads, encode}
 use Rattle.model.specs.Reading.{accepted, refused-at, read, PlanOk}
 use Rattle.model.specs.PlanValue.{empty-plan, reading-plan}
-use Rattle.model.specs.Net.{Call, Core, empty-net, site-of, level-of, lookup, ticket-of, has-child, above, counts, waiting-order, admissible}
+use Rattle.model.specs.Net.{Call, Core, empty-net, site-of, level-of, lookup, ticket-of, has-child, at-or-above, counts, waiting-order, admissible}
 use Rattle.model.specs.Net.{newcomer, closed, woken}
 use Rattle.model.specs.Command.{Command, start, call, return, refused, active, waiting, ended, order, fault, step, run}
 use Rattle.model.specs.NetRules.{Keeps}
@@ -33,9 +33,9 @@ pub record Demand-1 : Type 0 where
 -- 2
 
 -- the call that a start or a call opens: its parent, or no ticket, its ticket and its node
-pub data Opens : Command → ℕ → ℕ → ℕ → Type 0 where
-  by-start : {ticket node : ℕ} → Opens (start ticket node) no-ticket ticket node
-  by-call : {parent ticket node : ℕ} → Opens (call parent ticket node) parent ticket node
+pub data OpensCall : Command → ℕ → ℕ → ℕ → Type 0 where
+  by-start : {ticket node : ℕ} → OpensCall (start ticket node) no-ticket ticket node
+  by-call : {parent ticket node : ℕ} → OpensCall (call parent ticket node) parent ticket node
 
 pub record Demand-2 : Type 0 where
   -- "A plan is accepted exactly when the paper's condition on annotated call graphs and the file rules hold"
@@ -46,13 +46,13 @@ pub record Demand-2 : Type 0 where
   pub refused-when : (net : Core) → Keeps net → (command : Command) (n : ℕ) → List·Memᴰ n (order command)
       → (fault net command ≡ n) ↔ First n (rows net command)
   -- a start or a call that is accepted is active if the site stays lawful with one call more of its level, else waiting
-  pub opening-answer : (net : Core) (command : Command) (parent ticket node : ℕ) → Opens command parent ticket node → fault net command ≡ 0
+  pub opening-answer : (net : Core) (command : Command) (parent ticket node : ℕ) → OpensCall command parent ticket node → fault net command ≡ 0
       → step net command .answer
       ≡ cond
       (may-admit (threads (net .plan) (site-of (net .plan) node)) (counts (net .plan) (net .calls) (site-of (net .plan) node)) (level-of (net .plan) node))
       active waiting
   -- "and leaves the state that the paper and the rules define": the call stands behind those opened before
-  pub opening-state : (net : Core) (command : Command) (parent ticket node : ℕ) → Opens command parent ticket node → fault net command ≡ 0
+  pub opening-state : (net : Core) (command : Command) (parent ticket node : ℕ) → OpensCall command parent ticket node → fault net command ≡ 0
       → step net command .core ≡ record { plan = net .plan; calls = net .calls ++ (newcomer (net .plan) (net .calls) parent ticket node ∷ []) }
   -- ".. and return gets LIVE-P's answer, oldest admissible first": the call is gone, and of those that wait at its site the first that may be admitted
   -- is named
@@ -70,7 +70,7 @@ pub record Demand-2 : Type 0 where
 -- what is demanded of a net at any moment
 pub record Safe (net : Core) : Type 0 where
   -- "at each site with T threads, for each level k below T, at most T - k active calls have level k or higher"
-  pub never-too-many : (s k : ℕ) → k < threads (net .plan) s → count (above (net .plan) s k) (net .calls) ≤ threads (net .plan) s - k
+  pub never-too-many : (s k : ℕ) → k < threads (net .plan) s → count (at-or-above (net .plan) s k) (net .calls) ≤ threads (net .plan) s - k
   -- "no waiting call could be given a thread at that moment"
   pub nobody-could-go : (c : Call) → List·Memᴰ c (net .calls) → c .active ≡ false → admissible (net .plan) (net .calls) (c .node) ≡ false
   -- "if any call is open, some active call has no open call beneath it"

@@ -23,5 +23,4 @@ pub mod ProgramCase
 pub mod Same
 pub mod Useless
 pub mod Refusals
-pub mod Public
 pub mod Demands

@@ -84,18 +84,18 @@ has-child cs t = any (is-child t) cs
 
 -- A site
 
-unfoldable pub on : List Record → ℕ → Call → Bool
-on rs s c = eqb (site-of rs (c .node)) s
+unfoldable pub is-on : List Record → ℕ → Call → Bool
+is-on rs s c = eqb (site-of rs (c .node)) s
 
 unfoldable pub active-on : List Record → ℕ → Call → Bool
-active-on rs s c = on rs s c && c .active
+active-on rs s c = is-on rs s c && c .active
 
 unfoldable pub waits-on : List Record → ℕ → Call → Bool
-waits-on rs s c = on rs s c && not (c .active)
+waits-on rs s c = is-on rs s c && not (c .active)
 
 -- an active call of level k or higher
-unfoldable pub above : List Record → ℕ → ℕ → Call → Bool
-above rs s k c = active-on rs s c && leb k (level-of rs (c .node))
+unfoldable pub at-or-above : List Record → ℕ → ℕ → Call → Bool
+at-or-above rs s k c = active-on rs s c && leb k (level-of rs (c .node))
 
 -- "let a[k] be the active calls of level k": one more at its level for each active call (`counts-at`, of CountsLaws)
 unfoldable pub counts : List Record → List Call → ℕ → List ℕ

@@ -10,7 +10,7 @@ use Rattle.ids.specs.Limits.{sites, no-ticket, most-open}
 use Rattle.lists.specs.Count.{every}
 use Rattle.lists.specs.Pick.{count, all}
 use Rattle.model.specs.Site.{lawful}
-use Rattle.model.specs.Plan.{Record, threads, calls, six, passes, first-fault}
+use Rattle.model.specs.Plan.{Record, threads, has-edge, six, passes, first-fault}
 use Rattle.model.specs.Net.{Call, Core, has-node, has, lookup, counts, admissible}
 
 -- what a net keeps beside its core, so as not to work it out anew: the active calls of each level, for each site
@@ -20,7 +20,7 @@ Book = ℕ → List ℕ
 -- "every parent is open and active, with the edge in the plan"
 abbrev pub parent-stands : List Record → Option Call → ℕ → Bool
 parent-stands rs none node = false
-parent-stands rs (some p) node = p .active && calls rs (p .node) node
+parent-stands rs (some p) node = p .active && has-edge rs (p .node) node
 
 unfoldable pub parent-kept : List Record → List Call → Call → Bool
 parent-kept rs cs c = eqb (c .parent) no-ticket || parent-stands rs (lookup cs (c .parent)) (c .node)

@@ -89,8 +89,8 @@ among [] c d = false
 among (e ∷ es) c d = (eqb (e .0) c && eqb (e .1) d) || among es c d
 
 -- the call edge from c to d has a record
-unfoldable pub calls : List Record → ℕ → ℕ → Bool
-calls rs c d = among (edges-of rs) c d
+unfoldable pub has-edge : List Record → ℕ → ℕ → Bool
+has-edge rs c d = among (edges-of rs) c d
 
 unfoldable pub edges : List Record → ℕ
 edges rs = length (edges-of rs)
@@ -195,10 +195,10 @@ closed-backwards step ns rs = some-backwards step ns (edges-of rs)
 
 -- check 7, "the call edges have a loop", and check 8, "some node depends on itself": decided over the plan's own nodes
 unfoldable pub loops : List Record → Bool
-loops rs = closed-backwards (either (calls rs) no-steps) (listed rs) rs
+loops rs = closed-backwards (either (has-edge rs) no-steps) (listed rs) rs
 
 unfoldable pub self-depends : List Record → Bool
-self-depends rs = closed-backwards (either (calls rs) (site-steps rs)) (listed rs) rs
+self-depends rs = closed-backwards (either (has-edge rs) (site-steps rs)) (listed rs) rs
 
 -- "When the end record is reached, 7, then 8"
 unfoldable pub end-fault : List Record → ℕ

@@ -9,7 +9,7 @@ use lib.ListN.{length, getD}
 use lib.Dec.{eqb}
 use Rattle.model.specs.Graph.{Depends}
 use Rattle.model.specs.House.{Next, lacking, unknown, cut, whole, next}
-use Rattle.model.specs.Plan.{Record, site, node, edge, Levels, six, record-fault, passes, end-fault, plan-kinds, bytes-of, calls, site-steps, no-steps}
+use Rattle.model.specs.Plan.{Record, site, node, edge, Levels, six, record-fault, passes, end-fault, plan-kinds, bytes-of, has-edge, site-steps, no-steps}
 
 pub data Reading : Type 0 where
   -- the plan's records and the bytes used
@@ -78,5 +78,5 @@ end-checked ends (refused-at number at) = refused-at number at
 -- a plan that is to be accepted: its records pass the file's checks, the call edges have no loop, and no node depends on itself
 pub record PlanOk (rs : List Record) : Type 0 where
   pub records : passes six rs ≡ true
-  pub no-loop : (n : ℕ) → Depends (calls rs) no-steps n n → ⊥
-  pub acyclic : (n : ℕ) → Depends (calls rs) (site-steps rs) n n → ⊥
+  pub no-loop : (n : ℕ) → Depends (has-edge rs) no-steps n n → ⊥
+  pub acyclic : (n : ℕ) → Depends (has-edge rs) (site-steps rs) n n → ⊥

@@ -86,3 +86,13 @@ rows net (return ticket) = row-27 net ticket ∷ row-28 net ticket ∷ row-29 ne
 abbrev pub First : ℕ → List Row → Type 0
 First n [] = 0 ≡ n
 First n (r ∷ rs) = cond (eqb (r .number) n) (r .when) ((r .when → ⊥) × First n rs)
+
+-- What is handed in
+
+-- "a net is to be made from a plan that breaks any of checks 3 to 9"
+abbrev pub plan-refusal : ℕ
+plan-refusal = 18
+
+-- "a net is handed in, and it or its plan breaks a net rule"; it "comes before all others, for questions and room too"
+abbrev pub net-refusal : ℕ
+net-refusal = 19

@@ -7,7 +7,7 @@ use mathlib.Core.Bool.{cond}
 use mathlib.Core.List.{List, [], _∷_, _++_}
 use lib.Dec.{ltb}
 use Rattle.model.specs.Command.{Command, start, call, return, Answer, refused, active, waiting, ended, Standing, is-running, is-waiting}
-use Rattle.model.specs.Command.{not-open, Roomed, has-room, no-answer}
+use Rattle.model.specs.Command.{not-open, Roomed, has-room, room-refused}
 
 abbrev pub Text : Type 0
 Text = List ℕ
@@ -74,7 +74,7 @@ standing-text not-open = ascii " N"
 -- "a room its number"
 unfoldable pub room-text : Roomed → Text
 room-text (has-room n) = spaced n
-room-text (no-answer n) = refusal-text n
+room-text (room-refused n) = refusal-text n
 
 -- Lines
 

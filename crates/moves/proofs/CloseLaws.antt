@@ -12,7 +12,7 @@ use Rattle.lists.proofs.PickLaws.{found-in, length-without}
 use Rattle.lists.proofs.TellLaws.{place-inside}
 use Rattle.model.specs.Site.{raised}
 use Rattle.model.specs.Plan.{Record, threads}
-use Rattle.model.specs.Net.{Call, has-node, site-of, level-of, has, on, active-on, counts, closed}
+use Rattle.model.specs.Net.{Call, has-node, site-of, level-of, has, is-on, active-on, counts, closed}
 use Rattle.model.proofs.PlaceLaws.{threads-most, site-small, level-small, level-below-threads}
 use Rattle.model.proofs.CountsLaws.{more, counts-length, counts-closed}
 use Rattle.model.proofs.FirmLaws.{closed-firm}
@@ -50,7 +50,7 @@ module _ {rs : List Record} {cs : List Call} {ticket : ℕ} {gone : Call} {a : A
   counts-before s = counts-closed rs s (ok .held .firm .pass) (has ticket) cs gone (ok .ending .stands)
 
   had-one-more : counts rs cs site ≡ raised (counts rs (closed cs ticket) site) level
-  unfolding active-on on
+  unfolding active-on is-on
   had-one-more =
       counts-before site
       ∙ ap (λ (b : Bool). more (b && gone .active) (counts rs (closed cs ticket) site) (level-of rs (gone .node)))
@@ -59,7 +59,7 @@ module _ {rs : List Record} {cs : List Call} {ticket : ℕ} {gone : Call} {a : A
       ∙ ap (raised (counts rs (closed cs ticket) site)) (sym (ok .level-is))
 
   others-same : (s : ℕ) → (s ≡ site → ⊥) → counts rs (closed cs ticket) s ≡ counts rs cs s
-  unfolding active-on on
+  unfolding active-on is-on
   others-same s apart =
       sym (counts-before s
       ∙ ap (λ (b : Bool). more (b && gone .active) (counts rs (closed cs ticket) s) (level-of rs (gone .node)))

@@ -13,7 +13,7 @@ use Rattle.lists.specs.Count.{first}
 use Rattle.lists.specs.Fill.{Filled, renewed}
 use Rattle.model.specs.Site.{lawful, raised}
 use Rattle.model.specs.Plan.{Record, threads}
-use Rattle.model.specs.Net.{Call, site-of, level-of, on, active-on, counts, admissible, limit-at, newcomer, opened}
+use Rattle.model.specs.Net.{Call, site-of, level-of, is-on, active-on, counts, admissible, limit-at, newcomer, opened}
 use Rattle.model.proofs.PlaceLaws.{threads-most, site-small, level-small, level-below-threads}
 use Rattle.model.proofs.CountsLaws.{more, counts-length, counts-opened}
 use Rattle.model.proofs.AdmitLaws.{admissible-limit}
@@ -61,8 +61,8 @@ module _ {rs : List Record} {cs : List Call} {a : Arrays} {used : ℕ} (held : H
       ∙ ap (λ (s : ℕ). ltb (level-of rs node) (limit-at rs cs s)) (sym (placed .site-is))
       ∙ ap (λ (l : ℕ). ltb l (limit-at rs cs site)) (sym (placed .level-is))
 
-  pub admits : (limit : ℕ) → limit ≡ first most (no-room (a .rooms) (most-threads * site)) → level < limit → admissible rs cs node ≡ true
-  admits limit e h = decides ∙ lt-ltb level (limit-at rs cs site) (omega (arith, limit-means))
+  pub lets-in : (limit : ℕ) → limit ≡ first most (no-room (a .rooms) (most-threads * site)) → level < limit → admissible rs cs node ≡ true
+  lets-in limit e h = decides ∙ lt-ltb level (limit-at rs cs site) (omega (arith, limit-means))
 
   pub holds-back : (limit : ℕ) → limit ≡ first most (no-room (a .rooms) (most-threads * site)) → limit ≤ level → admissible rs cs node ≡ false
   holds-back limit e h = decides ∙ le-ltb level (limit-at rs cs site) (omega (arith, limit-means))
@@ -122,7 +122,7 @@ module _ {rs : List Record} {cs : List Call} {a : Arrays} {used parent ticket no
 
   -- the newcomer is active at its own site alone
   counts-here : admissible rs cs node ≡ true → counts rs (opened rs cs parent ticket node) site ≡ raised (counts rs cs site) level
-  unfolding active-on on newcomer
+  unfolding active-on is-on newcomer
   counts-here e =
       counts-after site
       ∙ ap (λ (b : Bool). more (b && admissible rs cs node) (counts rs cs site) (level-of rs node)) (eq-eqb (site-of rs node) site (sym (ok .placed .site-is)))
@@ -130,7 +130,7 @@ module _ {rs : List Record} {cs : List Call} {a : Arrays} {used parent ticket no
       ∙ ap (raised (counts rs cs site)) (sym (ok .placed .level-is))
 
   counts-there : (s : ℕ) → (s ≡ site → ⊥) → counts rs (opened rs cs parent ticket node) s ≡ counts rs cs s
-  unfolding active-on on newcomer
+  unfolding active-on is-on newcomer
   counts-there s apart =
       counts-after s
       ∙ ap (λ (b : Bool). more (b && admissible rs cs node) (counts rs cs s) (level-of rs node))
@@ -138,7 +138,7 @@ module _ {rs : List Record} {cs : List Call} {a : Arrays} {used parent ticket no
 
   -- and nowhere where it waits
   counts-waiting : admissible rs cs node ≡ false → (s : ℕ) → counts rs (opened rs cs parent ticket node) s ≡ counts rs cs s
-  unfolding active-on on newcomer
+  unfolding active-on is-on newcomer
   counts-waiting e s =
       counts-after s
       ∙ ap (λ (b : Bool). more (eqb (site-of rs node) s && b) (counts rs cs s) (level-of rs node)) e ∙ go (eqb (site-of rs node) s)

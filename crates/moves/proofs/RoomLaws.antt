@@ -12,7 +12,7 @@ use borrow.Author.Tests.{lt-ltb, le-ltb, le-leb, lt-leb, eq-eqb, eqb-true, eqb-f
 use Rattle.ids.specs.Limits.{sites, most-threads}
 use Rattle.lists.specs.Count.{one, first}
 use Rattle.lists.specs.Fill.{Filled, renewed}
-use Rattle.lists.proofs.CountLaws.{decided, lt-or-ge, same-test}
+use Rattle.lists.proofs.CountLaws.{true-or-false, lt-or-ge, same-test}
 use Rattle.lists.proofs.TellLaws.{first-same}
 use Rattle.model.specs.Site.{A, lawful, raised, full, limit, room}
 use Rattle.model.specs.Plan.{Record, threads}
@@ -88,7 +88,7 @@ module _ (rs : List Record) (book : Book) (rooms : List ℕ) (tells : RoomsTell 
             filled .outside (most-threads * r + k) (λ p q. apart (omega arith))
             ∙ tells .each r k hr hk
             ∙ ap (λ (a : List ℕ). room-byte (threads rs r) a k) (sym (others r apart)))
-            (decided (eqb r s))
+            (true-or-false (eqb r s))
 
     -- An admission
 

@@ -16,7 +16,7 @@ use Rattle.lists.proofs.PickLaws.{changed-none, length-changed}
 use Rattle.lists.proofs.TellLaws.{place-inside, any-found, any-not-found}
 use Rattle.model.specs.Site.{raised}
 use Rattle.model.specs.Plan.{Record}
-use Rattle.model.specs.Net.{Call, site-of, level-of, ticket-of, on, counts, may-wake, to-wake, activated, woken}
+use Rattle.model.specs.Net.{Call, site-of, level-of, ticket-of, is-on, counts, may-wake, to-wake, activated, woken}
 use Rattle.model.proofs.PlaceLaws.{threads-most, level-small}
 use Rattle.model.proofs.CountsLaws.{more, counts-woken}
 use Rattle.model.proofs.FirmLaws.{to-wake-fits, woken-firm}
@@ -88,14 +88,14 @@ module _ {rs : List Record} {cs : List Call} {a : Arrays} {used site most : ℕ}
     wake-takes = take-fits (ok .held) placed (to-wake-fits rs cs (ok .held .firm) site d chosen .3)
 
     counts-here : counts rs (woken rs cs site) site ≡ raised (counts rs cs site) level
-    unfolding to-wake woken on
+    unfolding to-wake woken is-on
     counts-here =
         let w = to-wake-fits rs cs (ok .held .firm) site d chosen in
         counts-woken rs site (ok .held .firm .pass) (may-wake rs cs site) cs d chosen (w .2)
         ∙ ap (λ (b : Bool). more b (counts rs cs site) level) (eq-eqb (site-of rs (d .node)) site (w .1))
 
     counts-there : (s : ℕ) → (s ≡ site → ⊥) → counts rs (woken rs cs site) s ≡ counts rs cs s
-    unfolding to-wake woken on
+    unfolding to-wake woken is-on
     counts-there s apart =
         let w = to-wake-fits rs cs (ok .held .firm) site d chosen in
         counts-woken rs s (ok .held .firm .pass) (may-wake rs cs site) cs d chosen (w .2)

@@ -15,7 +15,7 @@ use borrow.Author.Tests.{ne-eqb, eqb-true, lt-ltb, le-ltb, eqb-false}
 use Rattle.ids.specs.Limits.{most-open}
 use Rattle.lists.specs.Count.{first, some as holds-below}
 use Rattle.lists.specs.Pick.{any, found, without, changed, tell, passes-at, first-place}
-use Rattle.lists.proofs.CountLaws.{decided, lt-or-ge}
+use Rattle.lists.proofs.CountLaws.{true-or-false, lt-or-ge}
 use Rattle.lists.proofs.TellLaws.{first-same, some-same, tell-past, tell-more, place-inside, tell-place, tell-without, tell-changed, tell-blind}
 use Rattle.lists.proofs.TellLaws.{first-passes, some-passes, any-found, any-not-found}
 use Rattle.model.specs.Net.{Call, has, lookup, is-child}
@@ -46,7 +46,7 @@ tells-opened {g} {cs} {numbers} c used v t e room same = record { whole = length
         let apart = eqb-false i (length cs) q in
         getD-set-other numbers used i v 0 (λ p. apart (p ∙ e)) ∙ t .each i
         ∙ sym (tell-more g cs c i ∙ ap (λ (b : Bool). cond b (g c) (tell g cs i)) q))
-        (decided (eqb i (length cs)))
+        (true-or-false (eqb i (length cs)))
 
 -- a call whose number is 0 leaves its array as it is
 pub tells-opened-0 : {g : Call → ℕ} {cs : List Call} {numbers : List ℕ} (c : Call) → Tells g cs numbers → g c ≡ 0 → Tells g (cs ++ (c ∷ [])) numbers
@@ -59,7 +59,7 @@ tells-opened-0 {g} {cs} {numbers} c t zero-there = record { whole = t .whole; ea
         let here : i ≡ length cs = eqb-true i (length cs) q in
         t .each i ∙ tell-past g cs i (omega arith) ∙ sym (tell-more g cs c i ∙ ap (λ (b : Bool). cond b (g c) (tell g cs i)) q ∙ zero-there))
         (λ q. t .each i ∙ sym (tell-more g cs c i ∙ ap (λ (b : Bool). cond b (g c) (tell g cs i)) q))
-        (decided (eqb i (length cs)))
+        (true-or-false (eqb i (length cs)))
 
 -- Closing
 
@@ -104,7 +104,7 @@ tells-changed {g} {cs} {numbers} h f c at v t few e here same = record { whole =
         let apart = eqb-false i (first-place f cs) q in
         getD-set-other numbers at i v 0 (λ p. apart (p ∙ here)) ∙ t .each i
         ∙ sym (tell-changed g h f cs c e i ∙ ap (λ (b : Bool). cond b (g (h c)) (tell g cs i)) q))
-        (decided (eqb i (first-place f cs)))
+        (true-or-false (eqb i (first-place f cs)))
 
 pub tells-blind : {g : Call → ℕ} {cs : List Call} {numbers : List ℕ} (h : Call → Call) (f : Call → Bool) → ((c : Call) → g (h c) ≡ g c) → Tells g cs numbers
     → Tells g (changed h f cs) numbers

@@ -14,7 +14,7 @@ use Rattle.lists.proofs.CountLaws.{and-left, and-right, and-both, same-test, fi
 use Rattle.lists.proofs.TellLaws.{first-same, first-passes}
 use Rattle.model.specs.Site.{limit, full}
 use Rattle.model.specs.Plan.{Record, threads}
-use Rattle.model.specs.Net.{Call, site-of, level-of, on, waits-on, counts, admissible, limit-at, may-wake}
+use Rattle.model.specs.Net.{Call, site-of, level-of, is-on, waits-on, counts, admissible, limit-at, may-wake}
 use Rattle.model.specs.Steady.{Firm}
 use Rattle.model.proofs.AdmitLaws.{admissible-limit}
 use Rattle.model.proofs.PlaceLaws.{level-small, threads-most}
@@ -47,7 +47,7 @@ module _ (rs : List Record) (cs : List Call) (f : Firm rs cs) where
 
   key-wakes : (s : ℕ) (c : Call)
       → (ltb (most-threads * s) (key-of rs c) && leb (key-of rs c) (most-threads * s + limit-at rs cs s)) ≡ may-wake rs cs s c
-  unfolding key-of may-wake waits-on on
+  unfolding key-of may-wake waits-on is-on
   key-wakes s c = go (c .active)
     where
       site : ℕ

@@ -14,8 +14,8 @@ use Rattle.model.specs.Plan.{Record}
 use Rattle.model.specs.PlanValue.{records-of}
 use Rattle.model.specs.Net.{Call, lookup}
 use Rattle.model.specs.NetRules.{broken-rule}
-use Rattle.model.specs.Command.{Command, Outcome, step, Standing, standing, ask, Roomed, has-room, no-answer, room-at}
-use Rattle.model.specs.Public.{net-refusal}
+use Rattle.model.specs.Command.{Command, Outcome, step, Standing, standing, ask, Roomed, has-room, room-refused, room-at}
+use Rattle.model.specs.Refusals.{net-refusal}
 use Rattle.model.proofs.NetRuleLaws.{rules-exactly}
 use Rattle.model.proofs.StepLaws.{step-plan}
 use Rattle.moves.specs.Held.{Arrays, Held}

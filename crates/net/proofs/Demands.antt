@@ -9,7 +9,7 @@ use mathlib.Core.List.{List, [], _∷_}
 use lib.Dec.{eqb}
 use borrow.Author.Tests.{eq-eqb, ne-eqb, eqb-true, eqb-false}
 use Rattle.ids.specs.Limits.{most-edges}
-use Rattle.lists.proofs.CountLaws.{decided}
+use Rattle.lists.proofs.CountLaws.{true-or-false}
 use Rattle.model.specs.Plan.{Record, six}
 use Rattle.model.specs.Reading.{PlanOk}
 use Rattle.model.specs.PlanValue.{records-of, value}
@@ -18,7 +18,7 @@ use Rattle.model.specs.Net.{Core, admissible, empty-net}
 use Rattle.model.specs.NetRules.{Keeps}
 use Rattle.model.specs.Command.{Command, start, call, return, Answer, refused, active, waiting, ended, fault, done, opening, serving, step, run}
 use Rattle.model.specs.Demands.{Safe}
-use Rattle.model.specs.Public.{plan-refusal, net-refusal}
+use Rattle.model.specs.Refusals.{plan-refusal, net-refusal}
 use Rattle.model.specs.declared.Plan.{Plan}
 use Rattle.model.proofs.PlanFaultLaws.{plan-fault-none}
 use Rattle.model.proofs.PlanValueLaws.{edges-value, records-value}
@@ -76,7 +76,7 @@ module _ (net : Net) (sound : broken net ≡ 0) (c : Command) where
   Told after = (core-of after ≡ step (core-of net) c .core) × (broken after ≡ 0)
 
   pub net-told : (core-of (command-answered net c .net) ≡ step (core-of net) c .core) × (broken (command-answered net c .net) ≡ 0)
-  net-told = ⊎-elim taken left (decided (eqb (fault (core-of net) c) 0))
+  net-told = ⊎-elim taken left (true-or-false (eqb (fault (core-of net) c) 0))
     where
       taken : eqb (fault (core-of net) c) 0 ≡ true → Told (command-answered net c .net)
       taken e =

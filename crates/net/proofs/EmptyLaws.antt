@@ -12,7 +12,7 @@ use Rattle.lists.proofs.TabledLaws.{tabled-is}
 use Rattle.model.specs.PlanValue.{records-of, refusal-number}
 use Rattle.model.specs.PlanFault.{plan-fault, checked-plan}
 use Rattle.model.specs.Net.{counts}
-use Rattle.model.specs.Public.{plan-refusal}
+use Rattle.model.specs.Refusals.{plan-refusal}
 use Rattle.model.specs.declared.Plan.{Plan}
 use Rattle.model.specs.declared.PlanRefusal.{PlanRefusal}
 use Rattle.model.proofs.RefusalLaws.{refusal-named}
@@ -21,7 +21,7 @@ use Rattle.record.specs.declared.Checked.{Checked}
 use Rattle.audit.specs.Audits.{Audits}
 use Rattle.audit.specs.declared.Audited.{Audited}
 use Rattle.value.specs.View.{spare}
-use Rattle.value.specs.Handed.{call-at, table-of, count-at, counts-of, value-of, make-answered}
+use Rattle.value.specs.Handed.{call-at, table-of, count-at, counts-table, value-of, make-answered}
 use Rattle.value.specs.declared.Call.{Call as CallValue}
 use Rattle.value.specs.declared.Net.{Net}
 use Rattle.value.specs.declared.MadeNet.{MadeNet}
@@ -33,8 +33,8 @@ no-calls =
     tabled-is most-open (call-at []) (replicate most-open spare) spare (length-replicate most-open spare)
     (λ i h. getD-replicate most-open i spare spare h)
 
-no-counts : (p : Plan) → replicate (sites * most-threads) 0 ≡ counts-of (records-of p) []
-unfolding counts-of count-at counts
+no-counts : (p : Plan) → replicate (sites * most-threads) 0 ≡ counts-table (records-of p) []
+unfolding counts-table count-at counts
 no-counts p =
     tabled-is (sites * most-threads) (count-at (records-of p) []) (replicate (sites * most-threads) 0) 0 (length-replicate {A = ℕ} (sites * most-threads) 0)
     (λ i h. zero-at (sites * most-threads) i ∙ sym (zero-at most-threads (i % most-threads)))

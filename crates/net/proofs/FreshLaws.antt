@@ -4,7 +4,7 @@ use mathlib.Core.Path.{_≡_, refl, sym, _∙_}
 use mathlib.Core.List.{List}
 use lib.ListN.{length, getD, replicate, length-replicate, getD-replicate}
 use Rattle.ids.specs.Limits.{sites, most-threads, most-open, nodes}
-use Rattle.model.specs.Plan.{calls}
+use Rattle.model.specs.Plan.{has-edge}
 use Rattle.model.specs.PlanValue.{records-of}
 use Rattle.graph.specs.Tables.{on}
 use Rattle.graph.specs.Steps.{Is}
@@ -29,7 +29,7 @@ unlimited =
       all-255 = λ i h. getD-replicate {A = ℕ} (sites * most-threads) i 255 0 h;
     }
 
-pub fresh : (net : Net) {edges : List ℕ} → length edges ≡ nodes * nodes → Is edges (calls (records-of (net .plan)))
+pub fresh : (net : Net) {edges : List ℕ} → length edges ≡ nodes * nodes → Is edges (has-edge (records-of (net .plan)))
     → Blank net
     (arrays (replicate most-open 0) (replicate most-open 0) (replicate most-open 0) (replicate most-open 0) (replicate (sites * most-threads) 255)) edges
 fresh net {edges} whole is =

@@ -9,7 +9,7 @@ use lib.ListN.{length}
 use lib.Seq.{sets}
 use lib.Dec.{eqb}
 use borrow.Author.Tests.{eqb-true, eqb-false}
-use Rattle.lists.proofs.CountLaws.{lt-or-ge, decided}
+use Rattle.lists.proofs.CountLaws.{lt-or-ge, true-or-false}
 use Rattle.model.specs.Net.{Core}
 use Rattle.model.specs.Text.{Text}
 use Rattle.model.specs.Transcript.{line, after}
@@ -125,4 +125,4 @@ run-once net {bytes} {from} {old} {new} {newer} r q runs also =
     let a = runs .refuses bad in
     let b = also .refuses bad in
     (a .0 ∙ sym (b .0), a .1 ∙ sym (b .1)))
-    (decided (eqb (broken net) 0))
+    (true-or-false (eqb (broken net) 0))

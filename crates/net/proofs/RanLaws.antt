@@ -7,7 +7,7 @@ use mathlib.Core.List.{List}
 use lib.ListN.{length}
 use lib.Dec.{eqb}
 use borrow.Author.Tests.{eqb-true, eqb-false}
-use Rattle.lists.proofs.CountLaws.{decided}
+use Rattle.lists.proofs.CountLaws.{true-or-false}
 use Rattle.text.proofs.PutLaws.{put-long}
 use Rattle.model.specs.Plan.{Record}
 use Rattle.model.specs.PlanValue.{records-of}
@@ -17,7 +17,7 @@ use Rattle.model.specs.Transcript.{Request, command, question, room-question, a
 use Rattle.model.proofs.StepLaws.{step-plan}
 use Rattle.moves.specs.Held.{Arrays, Held}
 use Rattle.steps.specs.Running.{Running}
-use Rattle.runs.specs.Went.{Went, nowhere, further, Stops, Standing}
+use Rattle.runs.specs.Went.{Went, nowhere, further, Stops, RunStands}
 use Rattle.runs.specs.declared.Stop.{Stop}
 use Rattle.decode.specs.Asked.{asked}
 use Rattle.value.specs.View.{core-of, broken}
@@ -68,7 +68,7 @@ refused-run net r is bad = record { refuses = λ _. (refl, refl); runs = λ e. a
 
 pub ran-on : (net : Net) (r : ℕ) → r ≡ broken net → r ≡ 0 → {b : Arrays} {used : ℕ} {most-of places levels edges bytes : List ℕ}
     {from at commands : ℕ} {old new : List ℕ} {to : ℕ} {why : Stop} {got : Net} {halt : Halt}
-    → (on : Standing (core-of net) b used most-of places levels edges bytes from at commands old new to) → Stops bytes at (length new - to) why
+    → (on : RunStands (core-of net) b used most-of places levels edges bytes from at commands old new to) → Stops bytes at (length new - to) why
     → got ≡ value-of (net .plan) (on .net .calls) → halt ≡ halt-of why
     → NetRuns net bytes from old new (record { net = got; at = at; to = to; commands = commands; why = halt })
 ran-on net r is none {why = why} on stops same says =
@@ -91,4 +91,4 @@ ran-on net r is none {why = why} on stops same says =
 pub text-long : {net : Net} {bytes : List ℕ} {from : ℕ} {old new : List ℕ} {r : NetRan} → NetRuns net bytes from old new r → length new ≡ length old
 text-long {net} says =
     ⊎-elim (λ e. put-long (says .runs (eqb-true (broken net) 0 e) .written)) (λ e. ap length (says .refuses (eqb-false (broken net) 0 e) .1))
-    (decided (eqb (broken net) 0))
+    (true-or-false (eqb (broken net) 0))

@@ -22,7 +22,7 @@ use Rattle.model.proofs.CountsLaws.{counts-length}
 use Rattle.moves.specs.Held.{ticket-number, parent-number, node-number}
 use Rattle.moves.proofs.KeyLaws.{nobody}
 use Rattle.value.specs.View.{call-of, spare, first-calls, core-of, row-of, broken}
-use Rattle.value.specs.Handed.{is-active, call-at, table-of, count-at, counts-of, value-of}
+use Rattle.value.specs.Handed.{holds-thread, call-at, table-of, count-at, counts-table, value-of}
 use Rattle.value.specs.declared.Net.{Net}
 
 same-call : {t u p q n m : ℕ} {a b : Bool} → t ≡ u → p ≡ q → n ≡ m → a ≡ b
@@ -34,18 +34,18 @@ module _ (cs : List Call) (few : length cs ≤ most-open) where
   unfolding table-of call-at
   call-back i h =
       same-call (sym (tell-there ticket-number cs i nobody h)) (sym (tell-there parent-number cs i nobody h)) (sym (tell-there node-number cs i nobody h))
-      (sym (passes-there is-active cs i nobody h))
+      (sym (passes-there holds-thread cs i nobody h))
       ∙ sym (ap call-of (getD-tabled most-open (call-at cs) i spare (omega arith)))
 
   calls-back : first-calls (table-of cs) (length cs) ≡ cs
   unfolding first-calls
   calls-back = sym (tabled-is (length cs) (λ i. call-of (getD (table-of cs) i spare)) cs nobody refl call-back)
 
-row-back : (rs : List Record) (cs : List Call) (s : ℕ) → s < sites → row-of (counts-of rs cs) s ≡ counts rs cs s
-unfolding row-of counts-of count-at
+row-back : (rs : List Record) (cs : List Call) (s : ℕ) → s < sites → row-of (counts-table rs cs) s ≡ counts rs cs s
+unfolding row-of counts-table count-at
 row-back rs cs s hs =
     sym
-    (tabled-is most-threads (λ k. getD (counts-of rs cs) (most-threads * s + k) 0) (counts rs cs s) 0 (counts-length rs s cs)
+    (tabled-is most-threads (λ k. getD (counts-table rs cs) (most-threads * s + k) 0) (counts rs cs s) 0 (counts-length rs s cs)
     (λ k hk.
     let i = most-threads * s + k in
     let site : i / most-threads ≡ s = omega arith in
@@ -65,9 +65,9 @@ module _ (p : Plan) (cs : List Call) where
   pub value-sound : p .edges ≤ most-edges → Keeps core → broken (value-of p cs) ≡ 0
   unfolding broken value-of
   value-sound edges keeps =
-      ap (λ (b : Bool). cond b 1 (broken-rule (core-of (value-of p cs)) (row-of (counts-of (records-of p) cs)))) (le-ltb most-edges (p .edges) edges)
-      ∙ ap (λ (c : Core). broken-rule c (row-of (counts-of (records-of p) cs))) (core-back (keeps .few-open))
-      ∙ rules-exactly core (row-of (counts-of (records-of p) cs)) .1
+      ap (λ (b : Bool). cond b 1 (broken-rule (core-of (value-of p cs)) (row-of (counts-table (records-of p) cs)))) (le-ltb most-edges (p .edges) edges)
+      ∙ ap (λ (c : Core). broken-rule c (row-of (counts-table (records-of p) cs))) (core-back (keeps .few-open))
+      ∙ rules-exactly core (row-of (counts-table (records-of p) cs)) .1
       (record {
         plan-passes = keeps .plan-passes;
         tickets-differ = keeps .tickets-differ;

@@ -8,7 +8,7 @@ ghost use Rattle.model.specs.Command.{start, call, return};
 ghost use Rattle.steps.specs.Running.{entering};
 ghost use Rattle.value.specs.View.{broken};
 ghost use Rattle.value.specs.Handed.{value-of, command-answered, ask-answered, room-answered, make-answered};
-ghost use Rattle.net.specs.Public.{Refusing, RoomTold};
+ghost use Rattle.net.specs.Public.{MakeRefusal, RoomTold};
 ghost use Rattle.net.specs.Ran.{halt-of, NetRuns};
 use ids::Level;
 use ids::Node;
@@ -75,7 +75,7 @@ fn empty(plan: Plan) -> Net
 
 // 18 for a fault, else 0.
 fn refusal(checked: Checked) -> u8
-    ensures { λ r. ⌜ Refusing checked r ⌝ }
+    ensures { λ r. ⌜ MakeRefusal checked r ⌝ }
 {
     match checked {
         Checked::Passed => 0,

@@ -19,11 +19,11 @@ use Rattle.model.proofs.HeldLaws.{Sized}
 use Rattle.model.proofs.SiteLaws.{A-step, A-down, lawful-at}
 use Rattle.model.proofs.PlaceLaws.{threads-most}
 use Rattle.model.proofs.AdmitLaws.{within}
-use Rattle.value.specs.Handed.{table-of, count-at, counts-of, value-of}
+use Rattle.value.specs.Handed.{table-of, count-at, counts-table, value-of}
 use Rattle.value.specs.declared.Call.{Call as CallValue}
 use Rattle.value.specs.declared.Net.{Net}
 use Rattle.value.proofs.NodeLaws.{node-inside, site-there, level-there}
-use Rattle.tally.specs.Tally.{CountsTell, TooMany, Counted, Counting}
+use Rattle.tally.specs.Tally.{CountsTell, TooMany, CountTold, Counting}
 use Rattle.pack.specs.Packed.{Packing}
 
 module _ {plan : Plan} (sized : Sized plan) {cs : List Call} {tickets parents keys nodes : List ℕ} {used : ℕ}
@@ -65,19 +65,19 @@ module _ {plan : Plan} (sized : Sized plan) {cs : List Call} {tickets parents ke
       omega (arith, A-step a k, A-down a 0 k (omega arith), ap (A a) none, within (records-of plan) (ok .firm .pass) cs (ok .firm .known) s))
       (lt-or-ge 0 (threads (records-of plan) s))
 
-  counted : {numbers : List ℕ} (r : Bool) → Counted (records-of plan) cs numbers r → CountsTell (records-of plan) cs numbers
+  counted : {numbers : List ℕ} (r : Bool) → CountTold (records-of plan) cs numbers r → CountsTell (records-of plan) cs numbers
   counted r h =
       h .0 (not-false-so r (λ e. let over = h .1 e in absurd (omega (arith, over .many, few-active (over .site) (over .level)))))
 
-  counts-told : {numbers : List ℕ} → CountsTell (records-of plan) cs numbers → numbers ≡ counts-of (records-of plan) cs
-  unfolding counts-of count-at
+  counts-told : {numbers : List ℕ} → CountsTell (records-of plan) cs numbers → numbers ≡ counts-table (records-of plan) cs
+  unfolding counts-table count-at
   counts-told {numbers} t =
       tabled-is (sites * most-threads) (count-at (records-of plan) cs) numbers 0 (t .whole)
       (λ i h.
       let there : most-threads * (i / most-threads) + i % most-threads ≡ i = omega arith in
       ap (λ (j : ℕ). getD numbers j 0) (sym there) ∙ t .each (i / most-threads) (i % most-threads) (omega arith) (omega arith))
 
-  pub packed-is : {numbers : List ℕ} {calls : List CallValue} (r : Bool) → Counted (records-of plan) cs numbers r → calls ≡ table-of cs
+  pub packed-is : {numbers : List ℕ} {calls : List CallValue} (r : Bool) → CountTold (records-of plan) cs numbers r → calls ≡ table-of cs
       → _≡_ {A = Net} (record { plan = plan; calls = calls; used = used; counts = numbers }) (value-of plan cs)
   unfolding value-of
   packed-is {numbers} {calls} r h e =

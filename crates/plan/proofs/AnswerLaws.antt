@@ -20,10 +20,10 @@ use Rattle.model.proofs.PlanValueLaws.{records-value}
 use Rattle.model.proofs.RefusalLaws.{refusal-named}
 use Rattle.record.specs.Whole.{WholeFault}
 use Rattle.record.proofs.WholeLaws.{whole-is}
-use Rattle.plan.specs.Answers.{Answers, refused-read, accepted-read}
+use Rattle.plan.specs.Answers.{ReadTold, refused-read, accepted-read}
 
 pub refused-answers : {r : PlanRead} {back : Plan} {reading : Reading} (why : PlanRefusal) (at : ℕ)
-    → r ≡ refused-read why at back → back ≡ empty-plan → reading ≡ refused-at (refusal-number why) at → Answers r reading
+    → r ≡ refused-read why at back → back ≡ empty-plan → reading ≡ refused-at (refusal-number why) at → ReadTold r reading
 refused-answers why at e none f =
     record {
       answer-is = ap (λ (x : PlanRead). toldRead (x .answer)) e ∙ sym (ap reading-told f);
@@ -31,7 +31,7 @@ refused-answers why at e none f =
     }
 
 pub accepted-answers : {r : PlanRead} {plan : Plan} {reading : Reading} (rs : List Record) (used : ℕ)
-    → r ≡ accepted-read used plan → plan ≡ value rs → reading ≡ accepted rs used → Answers r reading
+    → r ≡ accepted-read used plan → plan ≡ value rs → reading ≡ accepted rs used → ReadTold r reading
 accepted-answers rs used e is f =
     record {
       answer-is = ap (λ (x : PlanRead). toldRead (x .answer)) e ∙ sym (ap reading-told f);
@@ -44,17 +44,17 @@ module _ (bytes : List ℕ) where
   read-is = checks-last six end-fault bytes
 
   -- a reading that stopped before the end record
-  pub stops-early : (s : PlanRead) (why : PlanRefusal) (at : ℕ) → s .answer ≡ ReadAnswer.Refused why at → Answers s (scanned bytes)
-      → Answers s (read bytes)
+  pub stops-early : (s : PlanRead) (why : PlanRefusal) (at : ℕ) → s .answer ≡ ReadAnswer.Refused why at → ReadTold s (scanned bytes)
+      → ReadTold s (read bytes)
   stops-early s why at is told = go (scanned bytes) refl told
     where
-      go : (x : Reading) → scanned bytes ≡ x → Answers s x → Answers s (read bytes)
+      go : (x : Reading) → scanned bytes ≡ x → ReadTold s x → ReadTold s (read bytes)
       go (accepted rs used) e a =
           let z : refusal-number why ≡ 0 = head-same (sym (ap toldRead is) ∙ a .answer-is) in absurd (refusal-named why .1 z)
         where
           head-same : {m n : ℕ} {a b : List ℕ} → m ∷ a ≡ n ∷ b → m ≡ n
           head-same p = cc
-      go (refused-at n o) e a = subst (Answers s) (sym (read-is ∙ ap (end-checked end-fault) e)) a
+      go (refused-at n o) e a = subst (ReadTold s) (sym (read-is ∙ ap (end-checked end-fault) e)) a
 
   -- a reading that reached it
   pub record Reached (plan : Plan) (used : ℕ) : Type 0 where
@@ -64,11 +64,11 @@ module _ (bytes : List ℕ) where
     pub scanned-is : scanned bytes ≡ accepted records used
     pub end-byte : 0 < used
 
-  pub reached : (s : PlanRead) (used : ℕ) → s .answer ≡ ReadAnswer.Accepted used → Answers s (scanned bytes) → Reached (s .plan) used
+  pub reached : (s : PlanRead) (used : ℕ) → s .answer ≡ ReadAnswer.Accepted used → ReadTold s (scanned bytes) → Reached (s .plan) used
   unfolding scanned
   reached s used is told = go (scanned bytes) refl told
     where
-      go : (x : Reading) → scanned bytes ≡ x → Answers s x → Reached (s .plan) used
+      go : (x : Reading) → scanned bytes ≡ x → ReadTold s x → Reached (s .plan) used
       go (accepted rs u) e a =
           let said : 0 ∷ used ∷ [] ≡ 0 ∷ u ∷ [] = sym (ap toldRead is) ∙ a .answer-is in
           let same : u ≡ used = cc in
@@ -95,7 +95,7 @@ module _ (bytes : List ℕ) where
     read-finished = read-is ∙ ap (end-checked end-fault) (at-end .scanned-is)
 
     -- with no fault there, it is what is read
-    pub passes-end : (s : PlanRead) → s .answer ≡ ReadAnswer.Accepted used → s .plan ≡ plan → WholeFault plan 0 → Answers s (read bytes)
+    pub passes-end : (s : PlanRead) → s .answer ≡ ReadAnswer.Accepted used → s .plan ≡ plan → WholeFault plan 0 → ReadTold s (read bytes)
     passes-end s is same fault =
         let back : used - 1 + 1 ≡ used = omega (arith, at-end .end-byte) in
         let whole : read bytes ≡ accepted (at-end .records) used

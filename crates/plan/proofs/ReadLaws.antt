@@ -22,7 +22,7 @@ use Rattle.model.specs.declared.PlanRecord.{PlanRecord}
 use Rattle.model.specs.declared.PlanRefusal.{PlanRefusal}
 use Rattle.model.proofs.FaultLaws.{next-record}
 use Rattle.model.proofs.ReadingLaws.{read-accepts, read-refuses, encode-rest, encode-length}
-use Rattle.model.proofs.TurnLaws.{passes-step}
+use Rattle.model.proofs.ScanLaws.{passes-step}
 use Rattle.model.proofs.RecordLaws.{passes-ok}
 use Rattle.model.proofs.RefusalLaws.{refusal-named}
 use Rattle.record.proofs.NextRecord as next-type

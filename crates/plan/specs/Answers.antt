@@ -10,7 +10,7 @@ use Rattle.model.specs.declared.ReadAnswer.{ReadAnswer}
 use Rattle.record.specs.declared.NextRecord.{NextRecord}
 
 -- the answer tells what the reading tells, and the plan is the reading's
-pub record Answers (r : PlanRead) (reading : Reading) : Type 0 where
+pub record ReadTold (r : PlanRead) (reading : Reading) : Type 0 where
   pub answer-is : toldRead (r .answer) ≡ reading-told reading
   pub plan-is : r .plan ≡ reading-plan reading
 

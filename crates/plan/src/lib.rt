@@ -2,7 +2,7 @@
 ghost use mathlib.Core.Path.{_≡_};
 ghost use Rattle.model.specs.Reading.{scanned as scanning, read as reading};
 ghost use Rattle.model.specs.PlanValue.{refusal-number};
-ghost use Rattle.plan.specs.Answers.{Answers, refused-read, accepted-read, why-unread};
+ghost use Rattle.plan.specs.Answers.{ReadTold, refused-read, accepted-read, why-unread};
 use model::Plan;
 use model::PlanRead;
 use model::PlanRecord;
@@ -62,7 +62,7 @@ fn unread(found: NextRecord) -> PlanRefusal
 // Reads records up to the end record, before the checks on the whole plan. Each is stored here, in place: a plan that went to another function and
 // back would be copied for each record.
 pub fn scan(bytes: &[u8]) -> PlanRead
-    ensures { λ r. ⌜ Answers r (scanning (now (bytes .entry))) ⌝ }
+    ensures { λ r. ⌜ ReadTold r (scanning (now (bytes .entry))) ⌝ }
 {
     let none = record::empty();
     let mut plan = none;
@@ -102,7 +102,7 @@ pub fn scan(bytes: &[u8]) -> PlanRead
 
 // Reads a plan from the front of some bytes. What stands behind the end record does not matter.
 pub fn read(bytes: &[u8]) -> PlanRead
-    ensures { λ r. ⌜ Answers r (reading (now (bytes .entry))) ⌝ }
+    ensures { λ r. ⌜ ReadTold r (reading (now (bytes .entry))) ⌝ }
 {
     let scanned = scan(bytes);
     let answer = scanned.answer;

@@ -10,7 +10,7 @@ use lib.Dec.{eqb}
 use borrow.Author.Tests.{ne-eqb}
 use Rattle.ids.specs.Limits.{most-threads}
 use Rattle.lists.specs.Count.{first}
-use Rattle.lists.proofs.CountLaws.{decided, lt-or-ge, never-both, first-holds, first-before, first-is, first-none}
+use Rattle.lists.proofs.CountLaws.{true-or-false, lt-or-ge, never-both, first-holds, first-before, first-is, first-none}
 use Rattle.lists.proofs.BlockLaws.{first-passed, first-here}
 use Rattle.rooms.specs.Rooms.{no-room, Limited}
 
@@ -61,7 +61,7 @@ module _ (rooms : List ℕ) (base threads : ℕ) (fit : Limited rooms base threa
           }
 
       front : k ≤ lowest rooms base → Lowest rooms base threads (k + 1) (min low here)
-      front p = ⊎-elim full free (decided (eqb (getD rooms (base + k) 0) 0))
+      front p = ⊎-elim full free (true-or-false (eqb (getD rooms (base + k) 0) 0))
         where
           full : eqb (getD rooms (base + k) 0) 0 ≡ true → Lowest rooms base threads (k + 1) (min low here)
           full t =

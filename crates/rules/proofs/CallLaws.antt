@@ -11,13 +11,13 @@ use Rattle.lists.proofs.CountLaws.{lt-or-ge}
 use Rattle.lists.proofs.PlaceLaws.{passes-there, all-places, one-fails}
 use Rattle.model.specs.Net.{Call}
 use Rattle.moves.proofs.KeyLaws.{nobody}
-use Rattle.rules.specs.Rules.{Counted}
+use Rattle.rules.specs.Rules.{CallsCounted}
 
 -- the calls below a place pass
 abbrev pub PassTo : (Call → Bool) → List Call → ℕ → Type 0
 PassTo f cs i = (j : ℕ) → j < i → passes-at f cs j ≡ true
 
-module _ (f : Call → Bool) {cs : List Call} {used : ℕ} (counted : Counted cs used) where
+module _ (f : Call → Bool) {cs : List Call} {used : ℕ} (counted : CallsCounted cs used) where
   module _ (i : ℕ) (inside : i < used) where
     pub place-inside : i < length cs
     place-inside = omega (arith, counted .count)

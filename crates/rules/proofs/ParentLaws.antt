@@ -13,7 +13,7 @@ use Rattle.lists.specs.Count.{first}
 use Rattle.lists.specs.Pick.{first-place}
 use Rattle.lists.proofs.PickLaws.{found-in}
 use Rattle.lists.proofs.PlaceLaws.{tell-there, member-there}
-use Rattle.model.specs.Plan.{Record, calls}
+use Rattle.model.specs.Plan.{Record, has-edge}
 use Rattle.model.specs.Net.{Call, has, lookup}
 use Rattle.model.specs.NetRules.{parent-stands, parent-kept}
 use Rattle.table.specs.Places.{holds, Searched}
@@ -76,12 +76,12 @@ module _ {rs : List Record} {cs : List Call} {tickets keys open-nodes : List ℕ
             }
 
   module _ (at : ℕ) (p : Parent at) where
-    kept-is : Kept rs cs parent node ≡ (p .who .active && calls rs (p .who .node) node)
+    kept-is : Kept rs cs parent node ≡ (p .who .active && has-edge rs (p .who .node) node)
     kept-is = kept-by (some (p .who)) (p .stands)
 
     pub parent-waits : (getD keys at 0 ≡ 0 → ⊥) → false ≡ Kept rs cs parent node
     parent-waits lit =
-        sym (kept-is ∙ ap (λ (b : Bool). b && calls rs (p .who .node) node) (key-waits rs (p .who) (λ e. lit (p .key-told ∙ e))))
+        sym (kept-is ∙ ap (λ (b : Bool). b && has-edge rs (p .who .node) node) (key-waits rs (p .who) (λ e. lit (p .key-told ∙ e))))
 
     pub edge-inside : nodes * getD open-nodes at 0 + node < length edges
     edge-inside = omega (arith, p .node-told, p .node-small, ok .node-inside, ok .seen .edging .whole)
@@ -90,7 +90,7 @@ module _ {rs : List Record} {cs : List Call} {tickets keys open-nodes : List ℕ
     parent-edge dark =
         ap (λ (n : ℕ). not (eqb (getD edges (nodes * n + node) 0) 0)) (p .node-told)
         ∙ ok .seen .edging .tells (p .who .node) node (p .node-small) (ok .node-inside)
-        ∙ sym (kept-is ∙ ap (λ (b : Bool). b && calls rs (p .who .node) node) (key-active rs (p .who) (sym (p .key-told) ∙ dark)))
+        ∙ sym (kept-is ∙ ap (λ (b : Bool). b && has-edge rs (p .who .node) node) (key-active rs (p .who) (sym (p .key-told) ∙ dark)))
 
 -- the parent of the call at a place
 module _ {rs : List Record} {cs : List Call} {tickets parents keys open-nodes : List ℕ} {used : ℕ} {edges : List ℕ}

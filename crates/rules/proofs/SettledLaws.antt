@@ -11,11 +11,11 @@ use borrow.Author.Tests.{eq-eqb}
 use Rattle.ids.specs.Limits.{sites, most-threads, most-open}
 use Rattle.lists.specs.Count.{first}
 use Rattle.lists.specs.Pick.{all, any, first-place}
-use Rattle.lists.proofs.CountLaws.{lt-or-ge, never-both, not-true-false, denied, decided, and-left, and-right, and-both}
+use Rattle.lists.proofs.CountLaws.{lt-or-ge, never-both, not-true-false, denied, true-or-false, and-left, and-right, and-both}
 use Rattle.lists.proofs.PickLaws.{all-at, all-each, any-some, any-none, found-some}
 use Rattle.lists.proofs.TellLaws.{place-inside}
 use Rattle.model.specs.Plan.{Record, threads}
-use Rattle.model.specs.Net.{Call, site-of, on, waits-on, counts, admissible, limit-at, may-wake}
+use Rattle.model.specs.Net.{Call, site-of, is-on, waits-on, counts, admissible, limit-at, may-wake}
 use Rattle.model.specs.NetRules.{could-go}
 use Rattle.model.proofs.PlaceLaws.{threads-most, site-small}
 use Rattle.rooms.specs.Rooms.{no-room, Limited}
@@ -31,7 +31,7 @@ AsleepTo rs cs n = (s : ℕ) → s < n → any (may-wake rs cs s) cs ≡ false
 
 -- a call that could go may be woken at its own site, and only one that could go may be woken
 wakes-there : (rs : List Record) (cs : List Call) (c : Call) → could-go rs cs c ≡ true → may-wake rs cs (site-of rs (c .node)) c ≡ true
-unfolding could-go may-wake waits-on on
+unfolding could-go may-wake waits-on is-on
 wakes-there rs cs c e =
     and-both (eqb (site-of rs (c .node)) (site-of rs (c .node)) && not (c .active)) (admissible rs cs (c .node))
     (and-both (eqb (site-of rs (c .node)) (site-of rs (c .node))) (not (c .active)) (eq-eqb (site-of rs (c .node)) (site-of rs (c .node)) refl)
@@ -39,7 +39,7 @@ wakes-there rs cs c e =
     (and-right (not (c .active)) (admissible rs cs (c .node)) e)
 
 wakes-could : (rs : List Record) (cs : List Call) (s : ℕ) (c : Call) → may-wake rs cs s c ≡ true → could-go rs cs c ≡ true
-unfolding could-go may-wake waits-on on
+unfolding could-go may-wake waits-on is-on
 wakes-could rs cs s c e =
     and-both (not (c .active)) (admissible rs cs (c .node))
     (and-right (eqb (site-of rs (c .node)) s) (not (c .active)) (and-left (eqb (site-of rs (c .node)) s && not (c .active)) (admissible rs cs (c .node)) e))
@@ -88,7 +88,7 @@ module _ {rs : List Record} {cs : List Call} {keys rooms : List ℕ} {used : ℕ
                 absurd (omega (arith, place-inside (may-wake rs cs s) cs (z .0) (z .1), ok .firm .few))
 
         pub somebody-there : (at ≡ most-open → ⊥) → false ≡ all (λ c. not (could-go rs cs c)) cs
-        somebody-there ne = sym (not-true-false (all (λ c. not (could-go rs cs c)) cs) (λ q. go (decided (any (may-wake rs cs s) cs)) q))
+        somebody-there ne = sym (not-true-false (all (λ c. not (could-go rs cs c)) cs) (λ q. go (true-or-false (any (may-wake rs cs s) cs)) q))
           where
             go : (any (may-wake rs cs s) cs ≡ true) ⊎ (any (may-wake rs cs s) cs ≡ false) → all (λ c. not (could-go rs cs c)) cs ≡ true → ⊥
             go (inl e) q =

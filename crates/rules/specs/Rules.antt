@@ -15,14 +15,14 @@ use Rattle.moves.specs.Held.{Tells, ticket-number, parent-number, node-number, 
 use Rattle.faults.specs.Seen.{Listing, Edging}
 
 -- how many calls the arrays hold
-pub record Counted (cs : List Call) (used : ℕ) : Type 0 where
+pub record CallsCounted (cs : List Call) (used : ℕ) : Type 0 where
   pub count : used ≡ length cs
   pub few : length cs ≤ most-open
 
 -- "open tickets differ and none is 0"
 
 pub record TicketsSeen (cs : List Call) (tickets : List ℕ) (used : ℕ) : Type 0 where
-  pub counted : Counted cs used
+  pub counted : CallsCounted cs used
   pub of-tickets : Tells ticket-number cs tickets
 
 abbrev pub TicketsTested : List ℕ → ℕ → Type 0
@@ -34,7 +34,7 @@ TicketsTest tickets used r = (cs : List Call) → TicketsSeen cs tickets used �
 -- "every open call's node is in the plan"
 
 pub record NodesSeen (rs : List Record) (cs : List Call) (open-nodes : List ℕ) (used : ℕ) (places : List ℕ) : Type 0 where
-  pub counted : Counted cs used
+  pub counted : CallsCounted cs used
   pub of-nodes : Tells node-number cs open-nodes
   pub listing : Listing rs places
 
@@ -48,7 +48,7 @@ NodesTest open-nodes used places r =
 -- "every parent is open and active, with the edge in the plan"
 
 pub record ParentsSeen (rs : List Record) (cs : List Call) (tickets keys open-nodes : List ℕ) (used : ℕ) (edges : List ℕ) : Type 0 where
-  pub counted : Counted cs used
+  pub counted : CallsCounted cs used
   pub of-tickets : Tells ticket-number cs tickets
   pub of-keys : Tells (key-of rs) cs keys
   pub of-nodes : Tells node-number cs open-nodes

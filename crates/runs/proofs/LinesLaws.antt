@@ -23,17 +23,17 @@ use Rattle.runs.specs.declared.Stop.{Stop}
 use Rattle.runs.proofs.WentLaws.{behind-inside}
 
 -- what the decoder found, in the model's words
-pub record Whole (bytes : List ℕ) (at : ℕ) (q : Request) (behind : ℕ) : Type 0 where
+pub record WholeRequest (bytes : List ℕ) (at : ℕ) (q : Request) (behind : ℕ) : Type 0 where
   pub kind : ℕ
   pub body : List ℕ
   pub found : next command-kinds (drop at bytes) ≡ whole kind body (drop behind bytes)
   pub asked-is : asked q ≡ request kind body
   pub behind-is : behind ≡ at + suc (length body)
 
-pub whole-found : (bytes : List ℕ) (at : ℕ) (q : Request) (behind : ℕ) → NextRequest.Whole q behind ≡ next-in bytes at → Whole bytes at q behind
+pub whole-found : (bytes : List ℕ) (at : ℕ) (q : Request) (behind : ℕ) → NextRequest.Whole q behind ≡ next-in bytes at → WholeRequest bytes at q behind
 whole-found bytes at q behind e = go (next command-kinds (drop at bytes)) refl e
   where
-    go : (n : Next) → next command-kinds (drop at bytes) ≡ n → NextRequest.Whole q behind ≡ from-next n at → Whole bytes at q behind
+    go : (n : Next) → next command-kinds (drop at bytes) ≡ n → NextRequest.Whole q behind ≡ from-next n at → WholeRequest bytes at q behind
     go lacking is e = let z : _≡_ {A = ℕ} 0 1 = cc in absurd (omega arith)
     go unknown is e = let z : _≡_ {A = ℕ} 0 1 = cc in absurd (omega arith)
     go cut is e = let z : _≡_ {A = ℕ} 0 1 = cc in absurd (omega arith)

@@ -22,7 +22,7 @@ use Rattle.decode.proofs.NextRequest as next-type
 use Rattle.decode.specs.declared.NextRequest.{NextRequest}
 use Rattle.steps.specs.Running.{Running}
 use Rattle.turns.specs.Turn.{Turned}
-use Rattle.runs.specs.Went.{Went, nowhere, further, stop-of, Stops, no-command, Standing}
+use Rattle.runs.specs.Went.{Went, nowhere, further, stop-of, Stops, no-command, RunStands}
 use Rattle.runs.specs.declared.Stop.{Stop}
 
 -- the place behind a whole record is further on, and no further than the end
@@ -45,14 +45,14 @@ count-inside {bytes} (further {at = at} went room request behind e) = omega (ari
 
 module _ {first : Core} {used : ℕ} {most-of places levels edges bytes : List ℕ} {from : ℕ} {old : List ℕ} where
   pub begins : {a : Arrays} → Running first a used most-of places levels edges
-      → Standing first a used most-of places levels edges bytes from from 0 old old 0
+      → RunStands first a used most-of places levels edges bytes from from 0 old old 0
   begins run = record { net = first; lines = []; went = nowhere; runs-on = run; written = record { written = refl; end-is = refl; inside = omega arith } }
 
   pub goes-on : {b d : Arrays} {at commands : ℕ} {new newer : List ℕ} {to next-to next-used : ℕ} (request : Request) (behind : ℕ)
-      → (on : Standing first b used most-of places levels edges bytes from at commands old new to)
+      → (on : RunStands first b used most-of places levels edges bytes from at commands old new to)
       → to + line-room ≤ length old → NextRequest.Whole request behind ≡ next-in bytes at
       → Turned (on .net) request d next-used most-of places levels edges new to newer next-to
-      → Standing first d next-used most-of places levels edges bytes from behind (commands + 1) old newer next-to
+      → RunStands first d next-used most-of places levels edges bytes from behind (commands + 1) old newer next-to
   goes-on request behind on room found turned =
       record {
         net = _;

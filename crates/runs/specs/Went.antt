@@ -38,7 +38,7 @@ pub data Stops (bytes : List ℕ) (at room : ℕ) (why : Stop) : Type 0 where
       → why ≡ stop-of (next-in bytes at) → Stops bytes at room why
 
 -- where a run stands
-pub record Standing (first : Core) (b : Arrays) (used : ℕ) (most-of places levels edges bytes : List ℕ) (from at commands : ℕ) (old new : List ℕ)
+pub record RunStands (first : Core) (b : Arrays) (used : ℕ) (most-of places levels edges bytes : List ℕ) (from at commands : ℕ) (old new : List ℕ)
     (to : ℕ) : Type 0 where
   pub net : Core
   pub lines : Text
@@ -49,5 +49,5 @@ pub record Standing (first : Core) (b : Arrays) (used : ℕ) (most-of places lev
 abbrev pub Runs : Arrays → Arrays → ℕ → Ran → List ℕ → List ℕ → List ℕ → List ℕ → List ℕ → ℕ → List ℕ → List ℕ → Type 0
 Runs a b used r most-of places levels edges bytes from old new =
     (first : Core) → Running first a used most-of places levels edges
-    → Standing first b (r .used) most-of places levels edges bytes from (r .at) (r .commands) old new (r .to)
+    → RunStands first b (r .used) most-of places levels edges bytes from (r .at) (r .commands) old new (r .to)
     × Stops bytes (r .at) (length new - r .to) (r .why)

@@ -18,7 +18,7 @@ use Rattle.model.proofs.PlanValueLaws.{records-value, edges-value}
 use Rattle.model.proofs.ReadingLaws.{read-accepts, read-refuses}
 use Rattle.model.proofs.RecordLaws.{passes-ok}
 use Rattle.model.proofs.RefusalLaws.{refusal-named}
-use Rattle.plan.specs.Answers.{Answers}
+use Rattle.plan.specs.Answers.{ReadTold}
 use Rattle.text.specs.Room.{plan-room}
 use Rattle.text.proofs.DigitLaws.{spaced-long}
 use Rattle.shown.specs.Heading.{heading, site-count, node-count, answer-line, first-text}
@@ -65,11 +65,11 @@ module _ (bytes : List ℕ) where
   unfolding read
   read-real number offset e = read-refuses six end-fault bytes number offset .0 e .real
 
-  pub heading-told : (r : PlanRead) → Answers r (read bytes) → first-text r ≡ heading (read bytes)
+  pub heading-told : (r : PlanRead) → ReadTold r (read bytes) → first-text r ≡ heading (read bytes)
   unfolding first-text
   heading-told r told = go (read bytes) (r .answer) refl refl told
     where
-      go : (x : Reading) (a : ReadAnswer) → read bytes ≡ x → r .answer ≡ a → Answers r x → answer-line (r .answer) (r .plan) ≡ heading (read bytes)
+      go : (x : Reading) (a : ReadAnswer) → read bytes ≡ x → r .answer ≡ a → ReadTold r x → answer-line (r .answer) (r .plan) ≡ heading (read bytes)
       go (accepted rs used) (ReadAnswer.Accepted u) e is w =
           let said : 0 ∷ u ∷ [] ≡ 0 ∷ used ∷ [] = sym (ap toldRead is) ∙ w .answer-is in
           let same : u ≡ used = cc in

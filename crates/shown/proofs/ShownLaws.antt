@@ -8,7 +8,7 @@ use lib.ListN.{length, length-append}
 use Rattle.lists.proofs.CountLaws.{getD-inside}
 use Rattle.ids.specs.Limits.{nodes}
 use Rattle.model.specs.Graph.{Depends}
-use Rattle.model.specs.Plan.{Record, place, present, calls, site-steps}
+use Rattle.model.specs.Plan.{Record, place, present, has-edge, site-steps}
 use Rattle.model.specs.PlanValue.{nowhere, somewhere, value, records-of, refusal-number, toldRead}
 use Rattle.model.specs.Reading.{Reading, accepted, refused-at, read, scanned}
 use Rattle.model.specs.Records.{RecordsOk}
@@ -18,9 +18,9 @@ use Rattle.model.specs.declared.PlanRefusal.{PlanRefusal}
 use Rattle.model.specs.declared.ReadAnswer.{ReadAnswer}
 use Rattle.model.proofs.PlanValueLaws.{value-sized, records-value, present-value}
 use Rattle.model.proofs.RefusalLaws.{refusal-named}
-use Rattle.graph.specs.Tables.{Tells}
+use Rattle.graph.specs.Tables.{TableTells}
 use Rattle.cycles.specs.Within.{within-nodes}
-use Rattle.plan.specs.Answers.{Answers}
+use Rattle.plan.specs.Answers.{ReadTold}
 use Rattle.plan.proofs.AnswerLaws.{Reached}
 use Rattle.shown.specs.Heading.{heading, first-text}
 use Rattle.shown.specs.Dependence.{node-depends}
@@ -32,7 +32,7 @@ use Rattle.shown.proofs.DependenceLaws.{told-on-depends}
 
 -- what a table holds that tells the dependences of a plan's value
 abbrev pub Dependences : List ℕ → Plan → Type 0
-Dependences cells p = Tells cells (Depends (within-nodes (calls (records-of p))) (site-steps (records-of p)))
+Dependences cells p = TableTells cells (Depends (within-nodes (has-edge (records-of p))) (site-steps (records-of p)))
 
 -- a node has a record where it is somewhere
 is-listed-value : (rs : List Record) → RecordsOk rs → (n : ℕ) → n < nodes → is-listed (value rs .places) n ≡ present (place rs n)
@@ -44,11 +44,11 @@ value-text : (rs : List Record) → RecordsOk rs → (cells : List ℕ) → Depe
 unfolding plan-text
 value-text rs ok cells tells =
     texts-same (is-listed (value rs .places)) (λ n. present (place rs n)) (told-on cells) (node-depends rs) (is-listed-value rs ok)
-    (told-on-depends rs ok cells (subst (λ (qs : List Record). Tells cells (Depends (within-nodes (calls qs)) (site-steps qs))) (records-value rs ok) tells))
+    (told-on-depends rs ok cells (subst (λ (qs : List Record). TableTells cells (Depends (within-nodes (has-edge qs)) (site-steps qs))) (records-value rs ok) tells))
 
 module _ (bytes : List ℕ) where
   -- the end record was reached
-  pub shown-reached : (r : PlanRead) → Answers r (read bytes) → (p : Plan) (used : ℕ) → Reached bytes p used
+  pub shown-reached : (r : PlanRead) → ReadTold r (read bytes) → (p : Plan) (used : ℕ) → Reached bytes p used
       → (cells : List ℕ) → Dependences cells p → first-text r ++ node-texts (is-listed (p .places)) (told-on cells) nodes ≡ shown-text bytes
   unfolding shown-text
   shown-reached r told p used there cells tells =
@@ -59,8 +59,8 @@ module _ (bytes : List ℕ) where
       ∙ sym (ap behind-end (there .scanned-is)))
 
   -- it was not
-  pub shown-early : (r : PlanRead) → Answers r (read bytes)
-      → (s : PlanRead) (why : PlanRefusal) (offset : ℕ) → s .answer ≡ ReadAnswer.Refused why offset → Answers s (scanned bytes)
+  pub shown-early : (r : PlanRead) → ReadTold r (read bytes)
+      → (s : PlanRead) (why : PlanRefusal) (offset : ℕ) → s .answer ≡ ReadAnswer.Refused why offset → ReadTold s (scanned bytes)
       → first-text r ≡ shown-text bytes
   unfolding shown-text
   shown-early r told s why offset is stopped =
@@ -68,7 +68,7 @@ module _ (bytes : List ℕ) where
       ∙ sym (append-nil (heading (read bytes)))
       ∙ ap (λ (t : List ℕ). heading (read bytes) ++ t) (sym (none-behind (scanned bytes) stopped))
     where
-      none-behind : (x : Reading) → Answers s x → behind-end x ≡ []
+      none-behind : (x : Reading) → ReadTold s x → behind-end x ≡ []
       none-behind (accepted rs used) w =
           let said : refusal-number why ∷ offset ∷ [] ≡ 0 ∷ used ∷ [] = sym (ap toldRead is) ∙ w .answer-is in
           let none : refusal-number why ≡ 0 = cc in

@@ -3,7 +3,7 @@ use Prim.Native.Nat.{ℕ}
 use mathlib.Core.Bool.{Bool, false, _&&_, _||_}
 use mathlib.Core.List.{List, [], _∷_}
 use Rattle.model.specs.Graph.{either, via}
-use Rattle.model.specs.Plan.{Record, edges-of, calls, site-steps, listed}
+use Rattle.model.specs.Plan.{Record, edges-of, has-edge, site-steps, listed}
 
 -- an edge is on a path from n to m
 abbrev pub on-way : (ℕ → ℕ → Bool) → List ℕ → ℕ → ℕ → ℕ × ℕ → Bool
@@ -16,4 +16,4 @@ some-on-way step ns n m (e ∷ es) = on-way step ns n m e || some-on-way step ns
 
 -- "Node n depends on m if a path leads from n to m with at least one call edge, where the path may also step between nodes of one site"
 unfoldable pub node-depends : List Record → ℕ → ℕ → Bool
-node-depends rs n m = some-on-way (either (calls rs) (site-steps rs)) (listed rs) n m (edges-of rs)
+node-depends rs n m = some-on-way (either (has-edge rs) (site-steps rs)) (listed rs) n m (edges-of rs)

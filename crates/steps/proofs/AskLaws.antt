@@ -14,7 +14,7 @@ use Rattle.lists.proofs.CountLaws.{lt-or-ge}
 use Rattle.model.specs.Site.{room}
 use Rattle.model.specs.Plan.{Record, threads, six, passes}
 use Rattle.model.specs.Net.{Call, Core, lookup, counts}
-use Rattle.model.specs.Command.{ask, Roomed, no-answer, room-at}
+use Rattle.model.specs.Command.{ask, Roomed, room-refused, room-at}
 use Rattle.model.proofs.RecordLaws.{threads-listed, passes-ok}
 use Rattle.model.proofs.PlaceLaws.{threads-most}
 use Rattle.moves.specs.Held.{room-byte}
@@ -54,7 +54,7 @@ module _ {net : Core} {rooms most-of : List ℕ} (seen : RoomSeen net rooms most
   unfolding room-at
   no-level high = rw (le-ltb level (threads (net .plan) site) high) (go (not (eqb (threads (net .plan) site) 0)) _)
     where
-      go : (b : Bool) (r : Roomed) → Refused 30 ≡ of-room (cond (b && false) r (no-answer 30))
+      go : (b : Bool) (r : Roomed) → Refused 30 ≡ of-room (cond (b && false) r (room-refused 30))
       go true r = refl
       go false r = refl
 

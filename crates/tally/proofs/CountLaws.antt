@@ -17,7 +17,7 @@ use Rattle.model.specs.Net.{Call, counts}
 use Rattle.model.proofs.CountsLaws.{of-level, counts-at}
 use Rattle.moves.specs.Held.{key-of, node-number}
 use Rattle.moves.proofs.KeyLaws.{nobody}
-use Rattle.tally.specs.Tally.{CountsTell, TooMany, Behind, Counted, Counting, Zeroed}
+use Rattle.tally.specs.Tally.{CountsTell, TooMany, Behind, CountTold, Counting, Zeroed}
 
 pub none-told : (rs : List Record) {numbers : List ℕ} → Zeroed numbers → CountsTell rs [] numbers
 unfolding counts
@@ -58,12 +58,12 @@ module _ {rs : List Record} {cs : List Call} {keys open-nodes : List ℕ} {used 
         known = ok .known (getD cs i nobody) (member-there cs i nobody room);
       }
 
-  pub counted-on : {numbers : List ℕ} (r : Bool) → r ≡ true → Counted rs (take i cs ++ (getD cs i nobody ∷ [])) numbers r
+  pub counted-on : {numbers : List ℕ} (r : Bool) → r ≡ true → CountTold rs (take i cs ++ (getD cs i nobody ∷ [])) numbers r
       → CountsTell rs (take (i + 1) cs) numbers
   counted-on {numbers} r e h = subst (λ (ds : List Call). CountsTell rs ds numbers) (sym (more-taken cs i room)) (h .0 e)
 
   -- too many of some are too many of all
-  pub counted-over : {numbers : List ℕ} (r : Bool) → r ≡ false → Counted rs (take i cs ++ (getD cs i nobody ∷ [])) numbers r → TooMany rs cs
+  pub counted-over : {numbers : List ℕ} (r : Bool) → r ≡ false → CountTold rs (take i cs ++ (getD cs i nobody ∷ [])) numbers r → TooMany rs cs
   counted-over r e h =
       let over = h .1 e in
       let pass = ok .placing .pass in

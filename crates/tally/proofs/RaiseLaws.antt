@@ -12,23 +12,23 @@ use borrow.Author.Tests.{eq-eqb, eqb-true, eqb-false}
 use Rattle.ids.specs.Limits.{sites, most-threads}
 use Rattle.lists.specs.Count.{one}
 use Rattle.lists.specs.Pick.{count}
-use Rattle.lists.proofs.CountLaws.{decided, never-both, not-true-false}
+use Rattle.lists.proofs.CountLaws.{true-or-false, never-both, not-true-false}
 use Rattle.lists.proofs.PickLaws.{count-more}
 use Rattle.model.specs.Plan.{Record, six, passes}
-use Rattle.model.specs.Net.{Call, site-of, level-of, on, active-on, counts}
+use Rattle.model.specs.Net.{Call, site-of, level-of, is-on, active-on, counts}
 use Rattle.model.proofs.PlaceLaws.{site-small, level-small}
 use Rattle.model.proofs.CountsLaws.{of-level, counts-at}
 use Rattle.moves.proofs.KeyLaws.{key-active, key-waits}
-use Rattle.tally.specs.Tally.{CountsTell, TooMany, Behind, Counted}
+use Rattle.tally.specs.Tally.{CountsTell, TooMany, Behind, CountTold}
 
 -- who is counted at a level of a site
 counted-there : (rs : List Record) (c : Call) → c .active ≡ true → of-level rs (site-of rs (c .node)) (level-of rs (c .node)) c ≡ true
-unfolding of-level active-on on
+unfolding of-level active-on is-on
 counted-there rs c e =
     rw (e, eq-eqb (site-of rs (c .node)) (site-of rs (c .node)) refl, eq-eqb (level-of rs (c .node)) (level-of rs (c .node)) refl)
 
 not-counted : (rs : List Record) (s k : ℕ) (c : Call) → c .active ≡ false → of-level rs s k c ≡ false
-unfolding of-level active-on on
+unfolding of-level active-on is-on
 not-counted rs s k c e = rw e (go (eqb (site-of rs (c .node)) s))
   where
     go : (b : Bool) → ((b && false) && eqb (level-of rs (c .node)) k) ≡ false
@@ -36,7 +36,7 @@ not-counted rs s k c e = rw e (go (eqb (site-of rs (c .node)) s))
     go false = refl
 
 counted-where : (rs : List Record) (s k : ℕ) (c : Call) → of-level rs s k c ≡ true → (site-of rs (c .node) ≡ s) × (level-of rs (c .node) ≡ k)
-unfolding of-level active-on on
+unfolding of-level active-on is-on
 counted-where rs s k c = go (eqb (site-of rs (c .node)) s) refl (c .active) (eqb (level-of rs (c .node)) k) refl
   where
     go : (a : Bool) → eqb (site-of rs (c .node)) s ≡ a → (b d : Bool) → eqb (level-of rs (c .node)) k ≡ d → ((a && b) && d) ≡ true
@@ -98,7 +98,7 @@ module _ {rs : List Record} {cs : List Call} {c : Call} {key node : ℕ} {places
             );
       }
 
-  pub raised-not : (key ≡ 0 → ⊥) → Counted rs (cs ++ (c ∷ [])) old true
+  pub raised-not : (key ≡ 0 → ⊥) → CountTold rs (cs ++ (c ∷ [])) old true
   raised-not ne =
       let waits = key-waits rs c (λ e. ne (b .key-is ∙ e)) in
       ((λ _. more-told old refl (λ s k hs hk. omega (arith, ap one (not-counted rs s k c waits)))), λ e. absurd (never-both {b = true} refl e))
@@ -112,7 +112,7 @@ module _ {rs : List Record} {cs : List Call} {c : Call} {key node : ℕ} {places
 
     new-at : (s k : ℕ) → s < sites → k < most-threads
         → getD new (most-threads * s + k) 0 ≡ getD old (most-threads * s + k) 0 + one (of-level rs s k c)
-    new-at s k hs hk = ⊎-elim here elsewhere (decided (of-level rs s k c))
+    new-at s k hs hk = ⊎-elim here elsewhere (true-or-false (of-level rs s k c))
       where
         here : of-level rs s k c ≡ true → getD new (most-threads * s + k) 0 ≡ getD old (most-threads * s + k) 0 + one (of-level rs s k c)
         here e =
@@ -133,10 +133,10 @@ module _ {rs : List Record} {cs : List Call} {c : Call} {key node : ℕ} {places
             e)
             ∙ omega (arith, ap one e)
 
-    pub raised-more : Counted rs (cs ++ (c ∷ [])) new true
+    pub raised-more : CountTold rs (cs ++ (c ∷ [])) new true
     raised-more = ((λ _. more-told new (length-set old at (v + 1)) new-at), λ e. absurd (never-both {b = true} refl e))
 
-    pub raised-over : 255 ≤ v → (after : List ℕ) → Counted rs (cs ++ (c ∷ [])) after false
+    pub raised-over : 255 ≤ v → (after : List ℕ) → CountTold rs (cs ++ (c ∷ [])) after false
     raised-over full after = (
       (λ e. absurd (never-both {b = false} e refl)),
       λ _.

@@ -16,17 +16,17 @@ use Rattle.model.proofs.SiteLaws.{A-step, lawful-at, lawful-all}
 use Rattle.tally.specs.Tally.{SiteCounted, room-from}
 
 -- the levels from k on are done
-pub record From (most : ℕ) (a : List ℕ) (base k above : ℕ) (old new : List ℕ) : Type 0 where
+pub record DoneFrom (most : ℕ) (a : List ℕ) (base k above : ℕ) (old new : List ℕ) : Type 0 where
   pub above-is : above ≡ A a k
   pub lawful-above : (j : ℕ) → k ≤ j → j < most → A a j + j ≤ most
   pub rooms-above : Filled (room-from most a base) (base + k) (base + most) old new
 
 module _ {numbers : List ℕ} {base most : ℕ} {a : List ℕ} (ok : SiteCounted numbers base most a) where
-  pub from-top : (old : List ℕ) → From most a base most 0 old old
+  pub from-top : (old : List ℕ) → DoneFrom most a base most 0 old old
   from-top old =
       record { above-is = sym (ok .none-above); lawful-above = λ j low high. absurd (omega arith); rooms-above = filled-none _ (base + most) old }
 
-  module _ {k above : ℕ} {old new : List ℕ} (h : From most a base k above old new) (some-level : 0 < k) (levels : k ≤ most-threads) where
+  module _ {k above : ℕ} {old new : List ℕ} (h : DoneFrom most a base k above old new) (some-level : 0 < k) (levels : k ≤ most-threads) where
     -- what is at the next level or above it
     pub above-next : above + getD numbers (base + (k - 1)) 0 ≡ A a (k - 1)
     above-next =
@@ -39,7 +39,7 @@ module _ {numbers : List ℕ} {base most : ℕ} {a : List ℕ} (ok : SiteCounted
 
     pub from-next : k ≤ most → base + (k - 1) < length new → (v : ℕ) → above + getD numbers (base + (k - 1)) 0 ≤ most - (k - 1)
         → v ≡ most - (k - 1) - (above + getD numbers (base + (k - 1)) 0)
-        → From most a base (k - 1) (above + getD numbers (base + (k - 1)) 0) old (set new (base + (k - 1)) v)
+        → DoneFrom most a base (k - 1) (above + getD numbers (base + (k - 1)) 0) old (set new (base + (k - 1)) v)
     unfolding room-from
     from-next high inside v fits e =
         record {
@@ -72,9 +72,9 @@ module _ {numbers : List ℕ} {base most : ℕ} {a : List ℕ} (ok : SiteCounted
         without n out =
             getD-set-other new place n v 0 (λ q. out (omega arith) (omega arith)) ∙ h .rooms-above .outside n (λ low below. out (omega arith) below)
 
-  pub all-lawful : {k above : ℕ} {old new : List ℕ} → From most a base k above old new → k ≡ 0
+  pub site-lawful : {k above : ℕ} {old new : List ℕ} → DoneFrom most a base k above old new → k ≡ 0
       → (true ≡ lawful most a) × (true ≡ true → Filled (room-from most a base) base (base + most) old new)
-  all-lawful {k} {above} {old} {new} h e = (
+  site-lawful {k} {above} {old} {new} h e = (
     sym (lawful-all most a (λ j below. h .lawful-above j (omega arith) below)),
     λ _. subst (λ (n : ℕ). Filled (room-from most a base) n (base + most) old new) (omega arith) (h .rooms-above),
   )

@@ -55,13 +55,13 @@ abbrev pub Raisable : ℕ → ℕ → List ℕ → List ℕ → List ℕ → Typ
 Raisable key node places levels numbers = (rs : List Record) × (cs : List Call) × (c : Call) × Behind rs cs c key node places levels numbers
 
 -- counted, or too many
-abbrev pub Counted : List Record → List Call → List ℕ → Bool → Type 0
-Counted rs cs numbers r = (r ≡ true → CountsTell rs cs numbers) × (r ≡ false → TooMany rs cs)
+abbrev pub CountTold : List Record → List Call → List ℕ → Bool → Type 0
+CountTold rs cs numbers r = (r ≡ true → CountsTell rs cs numbers) × (r ≡ false → TooMany rs cs)
 
 abbrev pub Raises : ℕ → ℕ → List ℕ → List ℕ → List ℕ → List ℕ → Bool → Type 0
 Raises key node places levels old new r =
     (length new ≡ length old)
-    × ((rs : List Record) (cs : List Call) (c : Call) → Behind rs cs c key node places levels old → Counted rs (cs ++ (c ∷ [])) new r)
+    × ((rs : List Record) (cs : List Call) (c : Call) → Behind rs cs c key node places levels old → CountTold rs (cs ++ (c ∷ [])) new r)
 
 -- All calls
 
@@ -79,7 +79,7 @@ Countable keys open-nodes used places levels numbers =
 
 abbrev pub Counts : List ℕ → List ℕ → ℕ → List ℕ → List ℕ → List ℕ → Bool → Type 0
 Counts keys open-nodes used places levels new r =
-    (rs : List Record) (cs : List Call) → Counting rs cs keys open-nodes used places levels → Counted rs cs new r
+    (rs : List Record) (cs : List Call) → Counting rs cs keys open-nodes used places levels → CountTold rs cs new r
 
 -- Two arrays of counts
 

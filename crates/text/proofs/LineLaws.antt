@@ -3,7 +3,7 @@ use Prim.Native.Nat.{ℕ}
 use mathlib.Core.Path.{_≡_, refl, sym, ap, _∙_}
 use mathlib.Core.List.{[], _∷_, _++_, append-assoc}
 use Rattle.model.specs.Command.{start, call, return, Answer, refused, active, waiting, ended, step}
-use Rattle.model.specs.Command.{Standing, is-running, is-waiting, not-open, ask, Roomed, has-room, no-answer, room-at}
+use Rattle.model.specs.Command.{Standing, is-running, is-waiting, not-open, ask, Roomed, has-room, room-refused, room-at}
 use Rattle.model.specs.Net.{Core}
 use Rattle.model.specs.Text.{Text, spaced, newline, answer-text, standing-text, room-text, command-text, ask-text, room-asked-text}
 use Rattle.model.specs.Transcript.{command, question, room-question, line}
@@ -44,7 +44,7 @@ standing-printed not-open = refl
 pub room-printed : (r : Roomed) → room-text r ≡ printed (of-room r)
 unfolding room-text printed
 room-printed (has-room n) = refl
-room-printed (no-answer n) = refl
+room-printed (room-refused n) = refl
 
 -- The model's lines
 

@@ -1,7 +1,7 @@
 -- The items and lines that `text` writes, in the model's words. Assumes nothing.
 use Prim.Native.Nat.{ℕ, _/_, _%_}
 use mathlib.Core.List.{[], _∷_, _++_}
-use Rattle.model.specs.Command.{Answer, refused, active, waiting, ended, Standing, is-running, is-waiting, not-open, Roomed, has-room, no-answer}
+use Rattle.model.specs.Command.{Answer, refused, active, waiting, ended, Standing, is-running, is-waiting, not-open, Roomed, has-room, room-refused}
 use Rattle.model.specs.Text.{Text, digit, spaced, refusal-text, newline}
 use Rattle.text.specs.declared.Printed.{Printed}
 use Rattle.text.specs.declared.Printed.the-variants.{Letter, Number, Refused}
@@ -21,7 +21,7 @@ of-standing not-open = Letter 78
 
 abbrev pub of-room : Roomed → Printed
 of-room (has-room n) = Number n
-of-room (no-answer n) = Refused n
+of-room (room-refused n) = Refused n
 
 -- the two digits of a number below 100, the first a 0 where it is below 10
 unfoldable pub pair-text : ℕ → Text

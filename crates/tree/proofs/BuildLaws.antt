@@ -17,11 +17,11 @@ use Rattle.lists.proofs.CountLaws.{lt-or-ge}
 use Rattle.model.specs.Tree.{size, root-height}
 use Rattle.tree.proofs.StoredLaws.{size-most, size-empty, stored-none, covers-right}
 use Rattle.tree.proofs.WalkLaws.{leaf-place}
-use Rattle.tree.specs.Places.{places, unlimited, no-slack, Counted, stored, first-level, Stands, Built}
-use Rattle.tree.specs.Places.{leaf-size, leaf-slack, pair-size, pair-slack, Joinable}
+use Rattle.tree.specs.Places.{places, unlimited, no-slack, TreeCounts, slack-byte, first-level, NodesStand, Built}
+use Rattle.tree.specs.Places.{leaf-size, leaf-slack, pair-size, pair-slack, RowJoinable}
 
 -- the places of a height: all lie from `first` on, and those that cover a level below T lie before `end`
-pub record Row (T first end : ℕ) : Type 0 where
+pub record TreeRow (T first end : ℕ) : Type 0 where
   pub height : ℕ
   pub rest : ℕ
   pub heights : rest + height ≡ root-height
@@ -32,14 +32,14 @@ pub record Row (T first end : ℕ) : Type 0 where
 -- an array that holds the tree nodes' numbers up to a height; the places of greater heights, before `first`, are as they were at first
 pub record Grown (f : ℕ → ℕ → ℕ) (empty height first : ℕ) (cells : List ℕ) : Type 0 where
   pub long : length cells ≡ places
-  pub stands : Stands height f cells
+  pub stands : NodesStand height f cells
   pub fresh : (n : ℕ) → n < first → getD cells n 0 ≡ empty
 
 -- the whole state: a row, and both arrays up to its height
 pub record Growing (T : ℕ) (a sizes slacks : List ℕ) (first end : ℕ) : Type 0 where
-  pub row : Row T first end
+  pub row : TreeRow T first end
   pub sized : Grown (size a) 0 (row .height) first sizes
-  pub slacked : Grown (stored T a) unlimited (row .height) first slacks
+  pub slacked : Grown (slack-byte T a) unlimited (row .height) first slacks
 
 -- One array
 
@@ -67,17 +67,17 @@ module _ (T : ℕ) (most : T ≤ most-threads) (f : ℕ → ℕ → ℕ) (empty 
           (lt-or-ge n (most-threads + T))
 
 -- Both arrays at the leaves
-pub growing-leaves : (T : ℕ) (a : List ℕ) → Counted T a → (sizes slacks : List ℕ)
+pub growing-leaves : (T : ℕ) (a : List ℕ) → TreeCounts T a → (sizes slacks : List ℕ)
     → Filled (leaf-size a) most-threads (most-threads + T) (replicate places 0) sizes
     → Filled (leaf-slack T a) most-threads (most-threads + T) (replicate places unlimited) slacks
     → Growing T a sizes slacks most-threads (most-threads + T)
-unfolding size stored
+unfolding size slack-byte
 growing-leaves T a ok sizes slacks w v =
     record {
       row = record { height = 0; rest = root-height; heights = refl; first-is = refl; end-low = omega arith; end-high = omega arith };
       sized = leaf-grown T (ok .most) (size a) 0 (size-empty T a ok) (leaf-size a) sizes (λ n l u. refl) w;
       slacked =
-          leaf-grown T (ok .most) (stored T a) unlimited (stored-none T a ok) (leaf-slack T a) slacks
+          leaf-grown T (ok .most) (slack-byte T a) unlimited (stored-none T a ok) (leaf-slack T a) slacks
           (λ n l u.
           let k = n - most-threads in
           sym (ap (λ (b : Bool). cond b (no-slack + T - k - getD a k 0) unlimited) (lt-ltb k T (omega arith))))
@@ -85,7 +85,7 @@ growing-leaves T a ok sizes slacks w v =
     }
 
 -- One height more
-module _ (T : ℕ) (a : List ℕ) (ok : Counted T a) (first end : ℕ) (row : Row T first end) (more : 1 < first) where
+module _ (T : ℕ) (a : List ℕ) (ok : TreeCounts T a) (first end : ℕ) (row : TreeRow T first end) (more : 1 < first) where
   P : ℕ
   P = 2 ^ row .height
 
@@ -132,7 +132,7 @@ module _ (T : ℕ) (a : List ℕ) (ok : Counted T a) (first end : ℕ) (row : Ro
       halved : (n : ℕ) → 2 * ((n + 1) / 2) ≤ n + 1
       halved n = omega arith
 
-  pub next-row : Row T (first / 2) ((end + 1) / 2)
+  pub next-row : TreeRow T (first / 2) ((end + 1) / 2)
   unfolding P
   next-row =
       let q = rest-some (row .rest) (row .first-is) in
@@ -239,19 +239,19 @@ module _ (T : ℕ) (a : List ℕ) (ok : Counted T a) (first end : ℕ) (row : Ro
   -- Both arrays
   module _ (sizes slacks : List ℕ)
       (sized : Grown (size a) 0 (row .height) first sizes)
-      (slacked : Grown (stored T a) unlimited (row .height) first slacks) where
+      (slacked : Grown (slack-byte T a) unlimited (row .height) first slacks) where
     joined-size : (n : ℕ) → Place n → pair-size sizes n ≡ size a (suc (row .height)) (level n)
     unfolding size P
     joined-size n p = ap₂ _+_ (left-half (size a) 0 sizes sized n p) (right-half (size a) 0 sizes sized n p)
 
-    joined-slack : (n : ℕ) → Place n → pair-slack sizes slacks n ≡ stored T a (suc (row .height)) (level n)
-    unfolding stored P
+    joined-slack : (n : ℕ) → Place n → pair-slack sizes slacks n ≡ slack-byte T a (suc (row .height)) (level n)
+    unfolding slack-byte P
     joined-slack n p =
         ap₂ min
-        (right-half (stored T a) unlimited slacks slacked n p)
-        (ap₂ _-_ (left-half (stored T a) unlimited slacks slacked n p) (right-half (size a) 0 sizes sized n p))
+        (right-half (slack-byte T a) unlimited slacks slacked n p)
+        (ap₂ _-_ (left-half (slack-byte T a) unlimited slacks slacked n p) (right-half (size a) 0 sizes sized n p))
 
-    pub can-join : Joinable sizes slacks (first / 2) ((end + 1) / 2)
+    pub can-join : RowJoinable sizes slacks (first / 2) ((end + 1) / 2)
     unfolding P
     can-join =
         record {
@@ -265,7 +265,7 @@ module _ (T : ℕ) (a : List ℕ) (ok : Counted T a) (first end : ℕ) (row : Ro
               omega (
                 arith,
                 right-half (size a) 0 sizes sized n p,
-                left-half (stored T a) unlimited slacks slacked n p,
+                left-half (slack-byte T a) unlimited slacks slacked n p,
                 covers-right T a ok (row .height) (level n) (place-level n to),
               );
         }
@@ -279,7 +279,7 @@ module _ (T : ℕ) (a : List ℕ) (ok : Counted T a) (first end : ℕ) (row : Ro
         record {
           row = next-row;
           sized = next-grown (size a) 0 sizes sized (size-empty T a ok) (pair-size sizes) sizes′ joined-size w;
-          slacked = next-grown (stored T a) unlimited slacks slacked (stored-none T a ok) (pair-slack sizes slacks) slacks′ joined-slack v;
+          slacked = next-grown (slack-byte T a) unlimited slacks slacked (stored-none T a ok) (pair-slack sizes slacks) slacks′ joined-slack v;
         }
 
 -- at the last place the whole tree stands
@@ -291,7 +291,7 @@ grown-whole {T} {a} {sizes} {slacks} {first} small g = go (g .row .rest) (g .row
         let six : g .row .height ≡ root-height = omega arith in
         record {
           arrays = record { sizes-long = g .sized .long; slacks-long = g .slacked .long };
-          size-at = subst (λ (n : ℕ). Stands n (size a) sizes) six (g .sized .stands);
-          slack-at = subst (λ (n : ℕ). Stands n (stored T a) slacks) six (g .slacked .stands);
+          size-at = subst (λ (n : ℕ). NodesStand n (size a) sizes) six (g .sized .stands);
+          slack-at = subst (λ (n : ℕ). NodesStand n (slack-byte T a) slacks) six (g .slacked .stands);
         }
     go (suc r) e h = absurd (omega (arith, pow-pos r))

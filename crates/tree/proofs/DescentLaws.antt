@@ -17,7 +17,7 @@ use Rattle.model.proofs.SiteLaws.{Accepted, accepted, not-refused, lawful-at}
 use Rattle.model.specs.declared.Walked.{Walked}
 use Rattle.tree.specs.declared.Descent.{Descent}
 use Rattle.tree.specs.Descent.{descent}
-use Rattle.tree.specs.Places.{places, unlimited, no-slack, Counted, stored, first-level, Built, walk-in}
+use Rattle.tree.specs.Places.{places, unlimited, no-slack, TreeCounts, slack-byte, first-level, Built, walk-in}
 use Rattle.tree.proofs.StoredLaws.{coded, size-most, stored-slack, root-lawful, root-unlawful}
 
 -- no number that the walk compares with is stored as no limit
@@ -31,7 +31,7 @@ coded-is (up-to s) x h =
 chosen : (b c : Bool) (v w v′ w′ : Walked) → b ≡ c → v ≡ v′ → w ≡ w′ → cond b (onward v) (onward w) ≡ cond c (onward v′) (onward w′)
 chosen b c v w v′ w′ p q r = cc
 
-counted : {T : ℕ} {a : List ℕ} → Accepted T a → Counted T a
+counted : {T : ℕ} {a : List ℕ} → Accepted T a → TreeCounts T a
 counted {T} {a} s =
     record { some = s .some; most = s .most; long = s .long; within = s .within; few = omega (arith, lawful-at T a (s .law) 0 (s .some)) }
 
@@ -40,11 +40,11 @@ unfolding descent
 refuses T a f = rw (not-false-so (refuses-site T a) (λ e. f (accepted T a e)))
 
 -- where a tree cannot be built the site is refused
-pub uncounted-refused : (T : ℕ) (a : List ℕ) → (Counted T a → ⊥) → Descent.Refused ≡ descent T a
+pub uncounted-refused : (T : ℕ) (a : List ℕ) → (TreeCounts T a → ⊥) → Descent.Refused ≡ descent T a
 uncounted-refused T a f = refuses T a (λ s. f (counted s))
 
-module _ (T : ℕ) (a : List ℕ) (ok : Counted T a) (sizes slacks : List ℕ) (built : Built root-height T a sizes slacks) where
-  root-stored : getD slacks 1 0 ≡ stored T a root-height 0
+module _ (T : ℕ) (a : List ℕ) (ok : TreeCounts T a) (sizes slacks : List ℕ) (built : Built root-height T a sizes slacks) where
+  root-stored : getD slacks 1 0 ≡ slack-byte T a root-height 0
   root-stored = built .slack-at root-height 1 (omega arith) (omega arith) (omega arith)
 
   pub root-refuses : getD slacks 1 0 < no-slack → Descent.Refused ≡ descent T a
@@ -75,7 +75,7 @@ module _ (T : ℕ) (a : List ℕ) (ok : Counted T a) (sizes slacks : List ℕ) (
         let size-right = built .size-at h (2 * n + 1) (omega arith) (omega arith) (omega arith) ∙ ap (size a h) right in
         let slack-left
         = built .slack-at h (2 * n) (omega arith) (omega arith) (omega arith)
-        ∙ ap (stored T a h) left
+        ∙ ap (slack-byte T a h) left
         ∙ stored-slack T a ok law h k in
         let with-right = ap (λ (s : ℕ). s + carried) size-right in
         chosen _ _ _ _ _ _

@@ -15,7 +15,7 @@ use Rattle.model.specs.Site.{A, lawful}
 use Rattle.model.specs.Tree.{Slack, no-limit, up-to, size, slack, less, smaller, root-height}
 use Rattle.model.proofs.SiteLaws.{A-step, A-end, A-down, lawful-at, lawful-all, level-empty}
 use Rattle.model.proofs.TreeLaws.{size-is, exact, slack-most, limited}
-use Rattle.tree.specs.Places.{Counted, stored, unlimited, no-slack}
+use Rattle.tree.specs.Places.{TreeCounts, slack-byte, unlimited, no-slack}
 
 -- a slack of the definitions as it is stored
 abbrev pub coded : Slack → ℕ
@@ -32,7 +32,7 @@ coded-pair no-limit (up-to t) n covers empty left right = omega (arith, empty re
 coded-pair (up-to s) no-limit n covers empty left right = omega (arith, covers s refl, left s refl)
 coded-pair (up-to s) (up-to t) n covers empty left right = omega (arith, covers s refl)
 
-module _ (T : ℕ) (a : List ℕ) (ok : Counted T a) where
+module _ (T : ℕ) (a : List ℕ) (ok : TreeCounts T a) where
   -- no level and no tree node has more calls than there are threads, and none at or above T has any
   few-from : (k : ℕ) → A a k ≤ T
   few-from k = omega (arith, A-down a 0 k zero-le, ok .few)
@@ -46,8 +46,8 @@ module _ (T : ℕ) (a : List ℕ) (ok : Counted T a) where
   pub size-empty : (h k : ℕ) → T ≤ k → size a h k ≡ 0
   size-empty h k p = omega (arith, size-is a h k, level-empty T a k (ok .within) p)
 
-  pub stored-none : (h k : ℕ) → T ≤ k → stored T a h k ≡ unlimited
-  unfolding stored
+  pub stored-none : (h k : ℕ) → T ≤ k → slack-byte T a h k ≡ unlimited
+  unfolding slack-byte
   stored-none zero k p = simp (le-ltb k T p)
   stored-none (suc h) k p = simp (stored-none h k p, stored-none h (k + 2 ^ h) (omega arith), size-empty h (k + 2 ^ h) (omega arith))
 
@@ -60,11 +60,11 @@ module _ (T : ℕ) (a : List ℕ) (ok : Counted T a) where
     split = size-is a h (k + 2 ^ h) ∙ ap (λ (n : ℕ). size a h (k + 2 ^ h) + n) ends
 
   -- below T: at least 64 less the calls of the tree node
-  stored-low : (h k : ℕ) → k < T → no-slack + A a (k + 2 ^ h) ≤ stored T a h k + A a k
-  unfolding stored
+  stored-low : (h k : ℕ) → k < T → no-slack + A a (k + 2 ^ h) ≤ slack-byte T a h k + A a k
+  unfolding slack-byte
   stored-low zero k p = simp (lt-ltb k T p) (omega (arith, A-step a k, ap (A a) (add-one k), few-from k))
   stored-low (suc h) k p =
-      let right : no-slack + A a (k + 2 ^ suc h) ≤ stored T a h (k + 2 ^ h) + A a (k + 2 ^ h)
+      let right : no-slack + A a (k + 2 ^ suc h) ≤ slack-byte T a h (k + 2 ^ h) + A a (k + 2 ^ h)
       = ⊎-elim
       (λ (q : k + 2 ^ h < T). omega (arith, stored-low h (k + 2 ^ h) q, ends h k))
       (λ (q : T ≤ k + 2 ^ h). omega (arith, stored-none h (k + 2 ^ h) q, few-from (k + 2 ^ suc h), ok .most))
@@ -72,12 +72,12 @@ module _ (T : ℕ) (a : List ℕ) (ok : Counted T a) where
       omega (arith, stored-low h k p, split h k, few-from k, ok .most, A-down a k (k + 2 ^ h) (omega arith))
 
   -- so the right size can be taken off the left slack
-  pub covers-right : (h k : ℕ) → k < T → size a h (k + 2 ^ h) ≤ stored T a h k
+  pub covers-right : (h k : ℕ) → k < T → size a h (k + 2 ^ h) ≤ slack-byte T a h k
   covers-right h k p = omega (arith, stored-low h k p, split h k, few-from k, ok .most)
 
   -- and at most what each level leaves
-  stored-high : (h k j : ℕ) → k ≤ j → j < k + 2 ^ h → j < T → stored T a h k + j + A a j ≤ no-slack + T + A a (k + 2 ^ h)
-  unfolding stored
+  stored-high : (h k j : ℕ) → k ≤ j → j < k + 2 ^ h → j < T → slack-byte T a h k + j + A a j ≤ no-slack + T + A a (k + 2 ^ h)
+  unfolding slack-byte
   stored-high zero k j l u below =
       let e : j ≡ k = omega arith in
       simp (lt-ltb k T (omega arith)) (omega (arith, ap (A a) e, A-step a k, ap (A a) (add-one k), few-from k))
@@ -97,8 +97,8 @@ module _ (T : ℕ) (a : List ℕ) (ok : Counted T a) where
         (λ (p : T ≤ k). size-empty h (k + 2 ^ h) (omega arith))
         (lt-or-ge k T)
 
-    pub stored-slack : (h k : ℕ) → stored T a h k ≡ coded (slack T a h k)
-    unfolding stored slack
+    pub stored-slack : (h k : ℕ) → slack-byte T a h k ≡ coded (slack T a h k)
+    unfolding slack-byte slack
     stored-slack zero k =
         ⊎-elim
         (λ (p : k < T). simp (lt-ltb k T p) (omega (arith, lawful-at T a law k p, A-step a k)))
@@ -116,10 +116,10 @@ module _ (T : ℕ) (a : List ℕ) (ok : Counted T a) where
   none-right : A a most-threads ≡ 0
   none-right = A-end a most-threads (omega (arith, ok .long))
 
-  pub root-lawful : no-slack ≤ stored T a root-height 0 → lawful T a ≡ true
+  pub root-lawful : no-slack ≤ slack-byte T a root-height 0 → lawful T a ≡ true
   root-lawful h = lawful-all T a (λ j l. omega (arith, stored-high root-height 0 j zero-le (omega (arith, ok .most)) l, none-right))
 
-  pub root-unlawful : stored T a root-height 0 < no-slack → lawful T a ≡ false
+  pub root-unlawful : slack-byte T a root-height 0 < no-slack → lawful T a ≡ false
   root-unlawful h =
       not-true-false (lawful T a)
       (λ law. let s = limited T a law root-height 0 (ok .some) in omega (arith, stored-slack law root-height 0 ∙ ap coded (s .1)))

@@ -22,7 +22,7 @@ abbrev pub no-slack : ℕ
 no-slack = 64
 
 -- what a tree is built from: the numbers are in range, no call stands at or above T, and there are no more calls than threads
-pub record Counted (T : ℕ) (a : List ℕ) : Type 0 where
+pub record TreeCounts (T : ℕ) (a : List ℕ) : Type 0 where
   pub some : 0 < T
   pub most : T ≤ most-threads
   pub long : length a ≡ most-threads
@@ -36,7 +36,7 @@ pub record Span (a : List ℕ) (from to : ℕ) : Type 0 where
   pub long : length a ≡ most-threads
 
 -- a byte for each place
-pub record Arrays (sizes slacks : List ℕ) : Type 0 where
+pub record TreeArrays (sizes slacks : List ℕ) : Type 0 where
   pub sizes-long : length sizes ≡ places
   pub slacks-long : length slacks ≡ places
 
@@ -46,24 +46,24 @@ pub record Fresh (sizes slacks : List ℕ) : Type 0 where
   pub no-limits : slacks ≡ replicate places unlimited
 
 -- what is stored as the slack of a tree node, where it may fall below 0
-unfoldable pub stored : ℕ → List ℕ → ℕ → ℕ → ℕ
-stored T a zero k = cond (ltb k T) (no-slack + T - k - getD a k 0) unlimited
-stored T a (suc h) k = min (stored T a h (k + 2 ^ h)) (stored T a h k - size a h (k + 2 ^ h))
+unfoldable pub slack-byte : ℕ → List ℕ → ℕ → ℕ → ℕ
+slack-byte T a zero k = cond (ltb k T) (no-slack + T - k - getD a k 0) unlimited
+slack-byte T a (suc h) k = min (slack-byte T a h (k + 2 ^ h)) (slack-byte T a h k - size a h (k + 2 ^ h))
 
 -- the first level that place n of height h covers
 abbrev pub first-level : ℕ → ℕ → ℕ
 first-level h n = n * 2 ^ h - most-threads
 
 -- an array that holds the number of each tree node up to a height
-abbrev pub Stands : ℕ → (ℕ → ℕ → ℕ) → List ℕ → Type 0
-Stands most number cells =
+abbrev pub NodesStand : ℕ → (ℕ → ℕ → ℕ) → List ℕ → Type 0
+NodesStand most number cells =
     (h n : ℕ) → h ≤ most → most-threads ≤ n * 2 ^ h → (n + 1) * 2 ^ h ≤ places → getD cells n 0 ≡ number h (first-level h n)
 
 -- the tree nodes up to a height stand in the arrays
 pub record Built (most T : ℕ) (a sizes slacks : List ℕ) : Type 0 where
-  pub arrays : Arrays sizes slacks
-  pub size-at : Stands most (size a) sizes
-  pub slack-at : Stands most (stored T a) slacks
+  pub arrays : TreeArrays sizes slacks
+  pub size-at : NodesStand most (size a) sizes
+  pub slack-at : NodesStand most (slack-byte T a) slacks
 
 -- what the leaf at place n holds
 abbrev pub leaf-size : List ℕ → ℕ → ℕ
@@ -80,8 +80,8 @@ abbrev pub pair-slack : List ℕ → List ℕ → ℕ → ℕ
 pair-slack sizes slacks n = min (getD slacks (2 * n + 1) 0) (getD slacks (2 * n) 0 - getD sizes (2 * n + 1) 0)
 
 -- a row of places that can be made: the halves of each have sizes that add up within a byte, and the left slack covers the right size
-pub record Joinable (sizes slacks : List ℕ) (first end : ℕ) : Type 0 where
-  pub arrays : Arrays sizes slacks
+pub record RowJoinable (sizes slacks : List ℕ) (first end : ℕ) : Type 0 where
+  pub arrays : TreeArrays sizes slacks
   pub rising : first ≤ end
   pub inside : end ≤ most-threads
   pub small : (n : ℕ) → first ≤ n → n < end → pair-size sizes n < 256
@@ -89,7 +89,7 @@ pub record Joinable (sizes slacks : List ℕ) (first end : ℕ) : Type 0 where
 
 -- a place to walk on from, and no more calls to its right than a walk can carry
 pub record Walkable (sizes slacks : List ℕ) (height n carried : ℕ) : Type 0 where
-  pub arrays : Arrays sizes slacks
+  pub arrays : TreeArrays sizes slacks
   pub high : height ≤ root-height
   pub from : most-threads ≤ n * 2 ^ height
   pub to : (n + 1) * 2 ^ height ≤ places

@@ -11,7 +11,7 @@ ghost use Rattle.ids.specs.Limits.{most-threads};
 ghost use Rattle.model.specs.Site.{A as above};
 ghost use Rattle.model.specs.Tree.{root-height};
 ghost use Rattle.lists.specs.Fill.{Filled};
-ghost use Rattle.tree.specs.Places.{Counted, Span, Arrays, Fresh, leaf-size, leaf-slack, Joinable, pair-size, pair-slack, Built, Walkable, walk-in};
+ghost use Rattle.tree.specs.Places.{TreeCounts, Span, TreeArrays, Fresh, leaf-size, leaf-slack, RowJoinable, pair-size, pair-slack, Built, Walkable, walk-in};
 ghost use Rattle.tree.specs.Descent.{descent};
 use ids::Site;
 use model::Walked;
@@ -65,7 +65,7 @@ pub fn calls_from(from: usize, counts: &[u8]) -> usize
 
 // Whether a tree can be built: the numbers are in range, no level at or above `threads` has a call, and there are no more calls than threads.
 fn countable(threads: usize, counts: &[u8]) -> bool
-    ensures { λ r. ⌜ (r ≡ true) ↔ Counted threads (now (counts .entry)) ⌝ }
+    ensures { λ r. ⌜ (r ≡ true) ↔ TreeCounts threads (now (counts .entry)) ⌝ }
 {
     if threads == 0 {
         return false;
@@ -84,7 +84,7 @@ fn countable(threads: usize, counts: &[u8]) -> bool
 
 // Sets the leaves of the levels below `threads`.
 fn leaves(threads: usize, counts: &[u8], sizes: &mut [u8], slacks: &mut [u8])
-    requires { ⌜ Counted threads (now counts) × Arrays (now sizes) (now slacks) ⌝ }
+    requires { ⌜ TreeCounts threads (now counts) × TreeArrays (now sizes) (now slacks) ⌝ }
     ensures { λ _. ⌜ Filled (leaf-size (now (counts .entry))) most-threads (most-threads + threads) (now (sizes .entry)) (now (sizes .exit)) ⌝ }
     ensures { λ _. ⌜ Filled (leaf-slack threads (now (counts .entry))) most-threads (most-threads + threads) (now (slacks .entry)) (now (slacks .exit)) ⌝ }
 {
@@ -101,7 +101,7 @@ fn leaves(threads: usize, counts: &[u8], sizes: &mut [u8], slacks: &mut [u8])
 
 // Makes each of the places from `first` up to `end`, that one left out, from its two halves.
 fn join(sizes: &mut [u8], slacks: &mut [u8], first: usize, end: usize)
-    requires { ⌜ Joinable (now sizes) (now slacks) first end ⌝ }
+    requires { ⌜ RowJoinable (now sizes) (now slacks) first end ⌝ }
     ensures { λ _. ⌜ Filled (pair-size (now (sizes .entry))) first end (now (sizes .entry)) (now (sizes .exit)) ⌝ }
     ensures { λ _. ⌜ Filled (pair-slack (now (sizes .entry)) (now (slacks .entry))) first end (now (slacks .entry)) (now (slacks .exit)) ⌝ }
 {
@@ -122,7 +122,7 @@ fn smaller(a: u8, b: u8) -> u8
 
 // Builds the tree in arrays that are as `descend` makes them. Places whose levels are all at or above `threads` keep size 0 and no limit.
 fn build(threads: usize, counts: &[u8], sizes: &mut [u8], slacks: &mut [u8])
-    requires { ⌜ Counted threads (now counts) × Fresh (now sizes) (now slacks) ⌝ }
+    requires { ⌜ TreeCounts threads (now counts) × Fresh (now sizes) (now slacks) ⌝ }
     ensures { λ _. ⌜ Built root-height threads (now (counts .entry)) (now (sizes .exit)) (now (slacks .exit)) ⌝ }
 {
     leaves(threads, counts, sizes, slacks);

@@ -12,8 +12,8 @@ use Rattle.model.specs.PlanValue.{empty-plan, records-of, value}
 use Rattle.model.specs.PlanFault.{plan-fault, checked-plan}
 use Rattle.model.specs.Net.{Call, Core, counts}
 use Rattle.model.specs.Command.{Command, Answer, refused, active, waiting, ended, Outcome, step, Standing, is-running, is-waiting, not-open, ask}
-use Rattle.model.specs.Command.{Roomed, has-room, no-answer, room-at}
-use Rattle.model.specs.Public.{net-refusal, plan-refusal}
+use Rattle.model.specs.Command.{Roomed, has-room, room-refused, room-at}
+use Rattle.model.specs.Refusals.{net-refusal, plan-refusal}
 use Rattle.model.specs.declared.Plan.{Plan}
 use Rattle.value.specs.View.{core-of, broken}
 use Rattle.value.specs.declared.Call.{Call as CallValue}
@@ -26,8 +26,8 @@ use Rattle.value.specs.declared.MadeNet.{MadeNet}
 
 -- The value of a net
 
-abbrev pub is-active : Call → Bool
-is-active c = c .active
+abbrev pub holds-thread : Call → Bool
+holds-thread c = c .active
 
 -- the call at a place of the table; past the open calls zeros and `false`
 unfoldable pub call-at : List Call → ℕ → CallValue
@@ -36,7 +36,7 @@ call-at cs i =
       ticket = record { 0 = tell (λ c. c .ticket) cs i };
       parent = record { 0 = tell (λ c. c .parent) cs i };
       node = record { 0 = tell (λ c. c .node) cs i };
-      active = passes-at is-active cs i;
+      active = passes-at holds-thread cs i;
     }
 
 unfoldable pub table-of : List Call → List CallValue
@@ -46,11 +46,11 @@ table-of cs = tabled most-open (call-at cs)
 unfoldable pub count-at : List Record → List Call → ℕ → ℕ
 count-at rs cs i = getD (counts rs cs (i / most-threads)) (i % most-threads) 0
 
-unfoldable pub counts-of : List Record → List Call → List ℕ
-counts-of rs cs = tabled (sites * most-threads) (count-at rs cs)
+unfoldable pub counts-table : List Record → List Call → List ℕ
+counts-table rs cs = tabled (sites * most-threads) (count-at rs cs)
 
 unfoldable pub value-of : Plan → List Call → Net
-value-of p cs = record { plan = p; calls = table-of cs; used = length cs; counts = counts-of (records-of p) cs }
+value-of p cs = record { plan = p; calls = table-of cs; used = length cs; counts = counts-table (records-of p) cs }
 
 -- Commands
 
@@ -89,7 +89,7 @@ ask-answered net ticket = cond (eqb (broken net) 0) (standing-value (ask (core-o
 
 abbrev pub room-value : Roomed → NetRoom
 room-value (has-room n) = NetRoom.Room n
-room-value (no-answer n) = NetRoom.Refused n
+room-value (room-refused n) = NetRoom.Refused n
 
 unfoldable pub room-answered : Net → ℕ → ℕ → NetRoom
 room-answered net s k = cond (eqb (broken net) 0) (room-value (room-at (core-of net) s k)) (NetRoom.Refused net-refusal)

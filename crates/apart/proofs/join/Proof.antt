@@ -2,13 +2,13 @@
 use Prim.Native.Nat.{_-_, _≤_, _<_}
 use native.Mathlib.Omega.{arith}
 use mathlib.Core.Path.{refl}
-use Rattle.apart.proofs.JoinLaws.{Joined, joined-none, joined-more, joined-table}
+use Rattle.apart.proofs.JoinLaws.{JoinedBelow, joined-none, joined-more, joined-table}
 use borrow.Author.Needs.{needs}
 use Rattle.apart.proofs.join.Statement.{statement}
 use Rattle.apart.proofs.join.Tie as tie
 
 abbrev Inv-loop : tie.InvT-loop
-Inv-loop tickets parents keys nodes used calls₀ i₀ calls i = Joined tickets parents keys nodes calls i × (i ≤ used)
+Inv-loop tickets parents keys nodes used calls₀ i₀ calls i = JoinedBelow tickets parents keys nodes calls i × (i ≤ used)
 
 abbrev μ-loop : tie.MeasureT-loop
 μ-loop tickets parents keys nodes used calls₀ i₀ calls i = used - i

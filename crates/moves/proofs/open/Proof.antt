@@ -2,7 +2,7 @@
 -- opening say what the stores leave. Assumes nothing.
 use native.Mathlib.Omega.{arith}
 use mathlib.Core.Path.{sym}
-use Rattle.moves.proofs.OpenLaws.{limit-fits, admits, holds-back, take-fits, opened-active, opened-waiting}
+use Rattle.moves.proofs.OpenLaws.{limit-fits, lets-in, holds-back, take-fits, opened-active, opened-waiting}
 use borrow.Author.Needs.{needs}
 use Rattle.moves.proofs.open.Statement.{statement}
 use Rattle.moves.proofs.open.Tie as tie
@@ -30,14 +30,14 @@ take-requires : tie.Need-take-requires
 take-requires c κs =
     let at-limit = c .before .before in
     let ok = start at-limit .pre .2 in
-    take-fits (ok .held) (ok .placed) (admits (ok .held) (ok .placed) _ (at-limit .limit .ensures) (c .before .if1 .taken))
+    take-fits (ok .held) (ok .placed) (lets-in (ok .held) (ok .placed) _ (at-limit .limit .ensures) (c .before .if1 .taken))
 
 returns : tie.Need-returns
 returns c =
     let at-take = c .before .before in
     let at-limit = at-take .before .before .before in
     λ rs cs ok.
-    let e = admits (ok .held) (ok .placed) _ (at-limit .limit .ensures) (at-take .before .before .if1 .taken) in
+    let e = lets-in (ok .held) (ok .placed) _ (at-limit .limit .ensures) (at-take .before .before .if1 .taken) in
     (sym e, opened-active ok e _ (at-take .take .ensures))
 
 slice-write-keys : tie.Need-slice-write-keys

@@ -12,7 +12,7 @@ use Rattle.text.proofs.PutLaws.{put-long}
 use Rattle.decode.specs.Asked.{next-in}
 use Rattle.decode.specs.declared.NextRequest.{NextRequest}
 use Rattle.steps.specs.Running.{Running}
-use Rattle.runs.specs.Went.{Standing, full}
+use Rattle.runs.specs.Went.{RunStands, full}
 use Rattle.runs.proofs.WentLaws.{begins, goes-on, behind-inside, count-inside, no-whole, AsLong, as-long}
 use borrow.Author.Needs.{needs}
 use Rattle.runs.proofs.run.Statement.{statement}
@@ -22,7 +22,7 @@ abbrev Inv-loop : tie.InvT-loop
 Inv-loop tickets₀ parents₀ keys₀ nodes₀ rooms₀ used threads places levels edges bytes from text₀ calls₀ at₀ to₀ commands₀
     tickets parents keys nodes rooms text calls at to commands =
     (first : Core) → Running first (arrays tickets₀ parents₀ keys₀ nodes₀ rooms₀) used threads places levels edges
-    → Standing first (arrays tickets parents keys nodes rooms) calls threads places levels edges bytes from at commands text₀ text to
+    → RunStands first (arrays tickets parents keys nodes rooms) calls threads places levels edges bytes from at commands text₀ text to
 
 abbrev μ-loop : tie.MeasureT-loop
 μ-loop tickets₀ parents₀ keys₀ nodes₀ rooms₀ used threads places levels edges bytes from text₀ calls₀ at₀ to₀ commands₀
@@ -44,7 +44,7 @@ entry c =
 -- where the run of the net at entry stands
 abbrev stands : (c : tie.At-loop Inv-loop μ-loop) → let s = entry c in
     let on = c .loop in
-    Standing (s .pre .0) (arrays (on .tickets) (on .parents) (on .keys) (on .nodes) (on .rooms)) (on .calls)
+    RunStands (s .pre .0) (arrays (on .tickets) (on .parents) (on .keys) (on .nodes) (on .rooms)) (on .calls)
     (now (s .args .threads)) (now (s .args .places)) (now (s .args .levels)) (now (s .args .edges)) (now (s .args .bytes))
     (s .args .from) (on .at) (on .commands) (now (s .args .text)) (on .text) (on .to)
 stands c = let ok = entry c .pre in c .loop .inv (ok .0) (ok .1)

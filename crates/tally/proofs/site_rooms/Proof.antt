@@ -7,7 +7,7 @@ use mathlib.Core.Bool.{false}
 use lib.ListN.{length, length-set}
 use Rattle.lists.proofs.CountLaws.{never-both}
 use Rattle.tally.specs.Tally.{SiteCounted}
-use Rattle.tally.proofs.SiteLaws.{From, from-top, not-lawful, from-next, all-lawful}
+use Rattle.tally.proofs.SiteLaws.{DoneFrom, from-top, not-lawful, from-next, site-lawful}
 use borrow.Author.Needs.{needs}
 use Rattle.tally.proofs.site_rooms.Statement.{statement}
 use Rattle.tally.proofs.site_rooms.Tie as tie
@@ -15,7 +15,7 @@ use Rattle.tally.proofs.site_rooms.Tie as tie
 abbrev Inv-loop : tie.InvT-loop
 Inv-loop counts base threads rooms₀ most above₀ k₀ rooms above k =
     (above + k ≤ most) × (length rooms ≡ length rooms₀)
-    × ((a : List ℕ) → SiteCounted counts base most a → From most a base k above rooms₀ rooms)
+    × ((a : List ℕ) → SiteCounted counts base most a → DoneFrom most a base k above rooms₀ rooms)
 
 abbrev μ-loop : tie.MeasureT-loop
 μ-loop counts base threads rooms₀ most above₀ k₀ rooms above k = k
@@ -103,7 +103,7 @@ same-length-2 : tie.Need-same-length-2 Inv-loop μ-loop
 same-length-2 c = c .before .loop .inv .1
 
 returns-2 : tie.Need-returns-2 Inv-loop μ-loop
-returns-2 c = (c .before .loop .inv .1, λ a ok. all-lawful ok (c .before .loop .inv .2 a ok) (omega (arith, c .loop-test .left)))
+returns-2 c = (c .before .loop .inv .1, λ a ok. site-lawful ok (c .before .loop .inv .2 a ok) (omega (arith, c .loop-test .left)))
 
 pub site-rooms-spec : {M : Type 1} → statement M
 site-rooms-spec =

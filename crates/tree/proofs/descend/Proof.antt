@@ -7,7 +7,7 @@ use borrow.Author.Needs.{needs}
 use borrow.Author.Tests.{not-true}
 use Rattle.lists.proofs.CountLaws.{never-both, not-false-true}
 use Rattle.tree.specs.declared.Descent.{Descent}
-use Rattle.tree.specs.Places.{Counted}
+use Rattle.tree.specs.Places.{TreeCounts}
 use Rattle.tree.proofs.DescentLaws.{uncounted-refused, root-refuses, root-stays, root-walks}
 use Rattle.tree.proofs.descend.Statement.{statement}
 use Rattle.tree.proofs.descend.Tie as tie
@@ -16,7 +16,7 @@ use Rattle.tree.proofs.descend.Tie as tie
 abbrev start-of : tie.Else1 → tie.Start
 start-of c = c .before .before .before
 
-counted : (c : tie.Else1) → Counted (start-of c .args .threads) (now (start-of c .args .counts))
+counted : (c : tie.Else1) → TreeCounts (start-of c .args .threads) (now (start-of c .args .counts))
 counted c = c .before .countable .ensures .0 (not-false-true _ (c .if1 .left))
 
 -- that place, seen from behind the build

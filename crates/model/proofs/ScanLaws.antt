@@ -11,7 +11,7 @@ use mathlib.Core.Option.{Option, none, some}
 use lib.ListN.{length, length-append}
 use lib.Dec.{eqb}
 use borrow.Author.Tests.{eqb-true, eqb-false, eq-eqb, ne-eqb}
-use Rattle.lists.proofs.CountLaws.{decided, and-left, and-right, and-both}
+use Rattle.lists.proofs.CountLaws.{true-or-false, and-left, and-right, and-both}
 use Rattle.model.specs.House.{Next, lacking, unknown, cut, whole, next}
 use Rattle.model.specs.Plan.{Record, site, node, edge, Levels, record-fault, passes, plan-kinds, bytes-of, records-bytes}
 use Rattle.model.specs.Reading.{Reading, accepted, refused-at, Ends, decoded, take-in, reading-by, read-on}
@@ -81,7 +81,7 @@ module _ (levels : Levels) (ends : Ends) where
       ⊎-elim
       (λ p. go (fault-is levels ends rs tail 0 .0 (eqb-true (fault-at levels ends rs tail) 0 p)))
       (λ p. faulty (eqb-false (fault-at levels ends rs tail) 0 p))
-      (decided (eqb (fault-at levels ends rs tail) 0))
+      (true-or-false (eqb (fault-at levels ends rs tail) 0))
     where
       go : Fault levels ends rs tail 0 → Turn rs tail
       go (no-kind e q) = absurd (omega arith)
