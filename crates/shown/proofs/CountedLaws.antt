@@ -44,9 +44,9 @@ module _ (p : Plan) where
   unfolding sites-up-to
   site-passed k h = rw (add-one k, eq-eqb (getD (p .threads) k 0) 0 h)
 
-  pub site-counted : (k : ℕ) → (getD (p .threads) k 0 ≡ 0 → ⊥) → sites-up-to (k + 1) ≡ sites-up-to k + 1
+  pub site-adds : (k : ℕ) → (getD (p .threads) k 0 ≡ 0 → ⊥) → sites-up-to (k + 1) ≡ sites-up-to k + 1
   unfolding sites-up-to
-  site-counted k h = rw (add-one k, ne-eqb (getD (p .threads) k 0) 0 h) (omega arith)
+  site-adds k h = rw (add-one k, ne-eqb (getD (p .threads) k 0) 0 h) (omega arith)
 
   pub sites-few : (k : ℕ) → sites-up-to k ≤ k
   unfolding sites-up-to
@@ -58,9 +58,9 @@ module _ (p : Plan) where
       go i qs true = omega arith
       go i qs false = omega arith
 
-  pub sites-all : sites-up-to sites ≡ site-count p
+  pub sites-together : sites-up-to sites ≡ site-count p
   unfolding sites-up-to site-count
-  sites-all =
+  sites-together =
       sym (ap count (records-each p)
       ∙ each-skip count (edge-at (p .callers) (p .callees)) (min (p .edges) most-edges) (its-nodes p) (λ i qs l. refl)
       ∙ each-skip count (node-at (p .places) (p .levels)) nodes (its-sites p) (λ i qs l. go i qs (somewhere (getD (p .places) i nowhere))))
@@ -92,9 +92,9 @@ module _ (p : Plan) where
     unfolding nodes-up-to listed
     node-passed h = rw (add-one k, its-place ∙ h)
 
-    pub node-counted : (getD (p .places) k 0 ≡ nowhere → ⊥) → nodes-up-to (k + 1) ≡ nodes-up-to k + 1
+    pub node-adds : (getD (p .places) k 0 ≡ nowhere → ⊥) → nodes-up-to (k + 1) ≡ nodes-up-to k + 1
     unfolding nodes-up-to listed
-    node-counted h = rw (add-one k, ne-eqb (getD (p .places) k nowhere) nowhere (λ e. h (sym its-place ∙ e))) (omega arith)
+    node-adds h = rw (add-one k, ne-eqb (getD (p .places) k nowhere) nowhere (λ e. h (sym its-place ∙ e))) (omega arith)
 
   pub nodes-few : (k : ℕ) → nodes-up-to k ≤ k
   unfolding nodes-up-to listed
@@ -111,9 +111,9 @@ module _ (p : Plan) where
       go i qs true = omega arith
       go i qs false = omega arith
 
-  pub nodes-all : nodes-up-to nodes ≡ node-count p
+  pub nodes-together : nodes-up-to nodes ≡ node-count p
   unfolding nodes-up-to node-count listed
-  nodes-all =
+  nodes-together =
       sym (ap count (records-each p)
       ∙ each-skip count (edge-at (p .callers) (p .callees)) (min (p .edges) most-edges) (its-nodes p) (λ i qs l. refl))
     where

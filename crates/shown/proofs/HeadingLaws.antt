@@ -112,9 +112,9 @@ pub heading-most : (x : Reading) → length (heading x) ≤ plan-room
 heading-most (accepted rs used) = accepted-most (length (sites-of rs)) (length (listed rs)) (edges rs) used
 heading-most (refused-at number offset) = refused-most number offset
 
-pub first-most : (r : PlanRead) → length (first-text r) ≤ plan-room
+pub first-text-most : (r : PlanRead) → length (first-text r) ≤ plan-room
 unfolding first-text
-first-most r = go (r .answer)
+first-text-most r = go (r .answer)
   where
     go : (a : ReadAnswer) → length (answer-line a (r .plan)) ≤ plan-room
     go (ReadAnswer.Accepted used) = accepted-most (site-count (r .plan)) (node-count (r .plan)) (r .plan .edges) used

@@ -44,7 +44,8 @@ value-text : (rs : List Record) → RecordsOk rs → (cells : List ℕ) → Depe
 unfolding plan-text
 value-text rs ok cells tells =
     texts-same (is-listed (value rs .places)) (λ n. present (place rs n)) (told-on cells) (node-depends rs) (is-listed-value rs ok)
-    (told-on-depends rs ok cells (subst (λ (qs : List Record). TableTells cells (Depends (within-nodes (has-edge qs)) (site-steps qs))) (records-value rs ok) tells))
+    (told-on-depends rs ok cells
+    (subst (λ (qs : List Record). TableTells cells (Depends (within-nodes (has-edge qs)) (site-steps qs))) (records-value rs ok) tells))
 
 module _ (bytes : List ℕ) where
   -- the end record was reached

@@ -7,7 +7,7 @@ use lib.ListN.{length, getD}
 use borrow.Author.Needs.{needs}
 use Rattle.ids.specs.Limits.{nodes}
 use Rattle.model.specs.PlanValue.{nowhere}
-use Rattle.shown.proofs.CountedLaws.{nodes-up-to, nodes-none, node-passed, node-counted, nodes-few, nodes-all}
+use Rattle.shown.proofs.CountedLaws.{nodes-up-to, nodes-none, node-passed, node-adds, nodes-few, nodes-together}
 use Rattle.shown.proofs.node_count.Statement.{statement}
 use Rattle.shown.proofs.node_count.Tie as tie
 
@@ -33,7 +33,7 @@ loop-again c =
     let i = at-loop .loop .i in
     let inside : i < length (p .places) = omega (arith, all-places (at-loop .before)) in
     ⊎-elim
-    (λ w. let there : getD (p .places) i 0 ≡ nowhere → ⊥ = omega (arith, w .0 .taken) in (omega (arith, node-counted p i inside there), omega arith))
+    (λ w. let there : getD (p .places) i 0 ≡ nowhere → ⊥ = omega (arith, w .0 .taken) in (omega (arith, node-adds p i inside there), omega arith))
     (λ w. let none : getD (p .places) i 0 ≡ nowhere = omega (arith, w .0 .left) in (omega (arith, node-passed p i inside none), omega arith))
     (c .if1 .came)
 
@@ -42,7 +42,7 @@ returns c =
     let at-loop = c .before in
     let p = at-loop .before .args .t1 in
     let all : at-loop .loop .i ≡ nodes = omega arith in
-    at-loop .loop .inv .0 ∙ ap (nodes-up-to p) all ∙ nodes-all p
+    at-loop .loop .inv .0 ∙ ap (nodes-up-to p) all ∙ nodes-together p
 
 pub node-count-spec : {M : Type 1} → statement M
 node-count-spec =

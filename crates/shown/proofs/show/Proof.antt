@@ -10,7 +10,7 @@ use Rattle.text.specs.Room.{number-room, plan-room}
 use Rattle.text.proofs.PutLaws.{put-as, put-then, room-left}
 use Rattle.plan.proofs.AnswerLaws.{reached}
 use Rattle.shown.specs.Room.{line-most}
-use Rattle.shown.proofs.HeadingLaws.{first-most}
+use Rattle.shown.proofs.HeadingLaws.{first-text-most}
 use Rattle.shown.proofs.ShownLaws.{shown-reached, shown-early}
 use Rattle.shown.proofs.show.Statement.{statement}
 use Rattle.shown.proofs.show.Tie as tie
@@ -38,7 +38,7 @@ returns c =
 left : (c : tie.After-first-line) → c .first-line .result + (nodes * line-most + number-room) ≤ length (c .first-line .last .0)
 left c =
     let read = c .before in
-    room-left plan-room (nodes * line-most + number-room) (c .first-line .ensures) (first-most (read .read .result)) (omega (arith, at-start read .pre))
+    room-left plan-room (nodes * line-most + number-room) (c .first-line .ensures) (first-text-most (read .read .result)) (omega (arith, at-start read .pre))
 
 -- from the lines back to the scan
 abbrev at-scan : tie.After-dependence → tie.After-scan

@@ -6,7 +6,7 @@ use mathlib.Core.Logic.{⊎-elim}
 use lib.ListN.{getD}
 use borrow.Author.Needs.{needs}
 use Rattle.ids.specs.Limits.{sites}
-use Rattle.shown.proofs.CountedLaws.{sites-up-to, sites-none, site-passed, site-counted, sites-few, sites-all}
+use Rattle.shown.proofs.CountedLaws.{sites-up-to, sites-none, site-passed, site-adds, sites-few, sites-together}
 use Rattle.shown.proofs.site_count.Statement.{statement}
 use Rattle.shown.proofs.site_count.Tie as tie
 
@@ -28,7 +28,7 @@ loop-again c =
     let p = at-loop .before .args .t1 in
     let i = at-loop .loop .i in
     ⊎-elim
-    (λ w. let there : getD (p .threads) i 0 ≡ 0 → ⊥ = omega (arith, w .0 .taken) in (omega (arith, site-counted p i there), omega arith))
+    (λ w. let there : getD (p .threads) i 0 ≡ 0 → ⊥ = omega (arith, w .0 .taken) in (omega (arith, site-adds p i there), omega arith))
     (λ w. let none : getD (p .threads) i 0 ≡ 0 = omega (arith, w .0 .left) in (omega (arith, site-passed p i none), omega arith))
     (c .if1 .came)
 
@@ -37,7 +37,7 @@ returns c =
     let at-loop = c .before in
     let p = at-loop .before .args .t1 in
     let all : at-loop .loop .i ≡ sites = omega arith in
-    at-loop .loop .inv .0 ∙ ap (sites-up-to p) all ∙ sites-all p
+    at-loop .loop .inv .0 ∙ ap (sites-up-to p) all ∙ sites-together p
 
 pub site-count-spec : {M : Type 1} → statement M
 site-count-spec =
