@@ -1,17 +1,14 @@
 // The bench program of document 01: a plan and then commands from standard input, of any length, and a line for each. What has come is answered before more is
-// read, so that a console behind a pipe has its line at once. Everything that decides anything is `plan`'s, `net`'s and `transcript`'s.
+// read, so that a console behind a pipe has its line at once. Everything that decides anything is `plan`'s, `net`'s and `transcript`'s, and the first line is
+// `shown`'s.
 use ids::Node;
 use ids::Site;
-use model::Plan;
-use model::PlanRead;
 use model::PlanRefusal;
 use model::ReadAnswer;
 use transcript::Halt;
 use value::Net;
-ghost use Prim.Native.Nat.{_+_, _≤_};
 ghost use mathlib.Core.Path.{_≡_};
 ghost use lib.ListN.{length};
-ghost use Rattle.ids.specs.Limits.{sites as most-sites, nodes as most-nodes};
 
 // The bytes of text that are held at a time; of input it is `io::large_buffer`.
 const TEXT: usize = 131072;
@@ -104,51 +101,6 @@ fn read_plan(input: &mut [u8]) -> usize
         }
     }
     have
-}
-
-fn sites(plan: Plan) -> usize
-    ensures { λ r. ⌜ r ≤ most-sites ⌝ }
-{
-    let mut count = 0;
-    let mut i = 0;
-    while i < Site::COUNT {
-        if plan.threads[i] != 0 {
-            count += 1;
-        }
-        i += 1;
-    }
-    count
-}
-
-fn nodes(plan: Plan) -> usize
-    ensures { λ r. ⌜ r ≤ most-nodes ⌝ }
-{
-    let mut count = 0;
-    let mut i = 0;
-    while i < Node::COUNT {
-        if plan.places[i] != Plan::NOWHERE {
-            count += 1;
-        }
-        i += 1;
-    }
-    count
-}
-
-// The first line.
-fn heading(text: &mut [u8], read: PlanRead) -> usize
-    requires { ⌜ 131072 ≡ length (now text) ⌝ }
-    ensures { λ r. ⌜ length (now (text .exit)) ≡ length (now (text .entry)) ⌝ }
-{
-    let plan = read.plan;
-    let answer = read.answer;
-    match answer {
-        ReadAnswer::Accepted(used) => {
-            text::plan_line(text, 0, sites(plan), nodes(plan), plan.edges, used)
-        }
-        ReadAnswer::Refused(why, offset) => {
-            text::plan_refused_line(text, 0, plan::refusal_number(why), offset)
-        }
-    }
 }
 
 // The last line.
@@ -288,7 +240,7 @@ fn main() {
         return;
     }
     let read = plan::read(&input[..have]);
-    let to = heading(&mut text, read);
+    let to = shown::first_line(&mut text, 0, read);
     if !write(&text, to) {
         return;
     }

@@ -1,3 +1,3 @@
 mod StandsLaws
 mod ReadLaws
-mod AnswerLaws
+pub mod AnswerLaws

@@ -56,7 +56,7 @@ pub fn number(text: &mut [u8], at: usize, n: u16) -> usize
 }
 
 // The digits of any number: those of its tenth first, and then the last one.
-fn digits(text: &mut [u8], at: usize, n: usize) -> usize
+pub fn digits(text: &mut [u8], at: usize, n: usize) -> usize
     requires { ⌜ at + length (decimal n) ≤ length (now text) ⌝ }
     ensures { λ r. ⌜ Put (now (text .entry)) at (decimal n) (now (text .exit)) r ⌝ }
 {

@@ -5,6 +5,7 @@ use mathlib.Core.Path.{_≡_, sym, _∙_}
 use lib.ListN.{length, length-replicate}
 use lib.Seq.{length-take-le}
 use borrow.Author.Needs.{needs}
+use Rattle.text.proofs.PutLaws.{put-long}
 use Rattle.bench.proofs.main.Statement.{statement}
 use Rattle.bench.proofs.main.Tie as tie
 
@@ -23,16 +24,18 @@ slice-aggregate-read c =
     let planned = c .before .before .before in
     sym (length-take-le (planned .read-plan .result) (planned .read-plan .last .0) (omega (arith, long planned, c .before .if1 .left)))
 
-heading-requires : tie.Need-heading-requires Inv-loop μ-loop
-heading-requires c κs = sym (length-replicate {A = ℕ} 131072 0)
+first-line-requires : tie.Need-first-line-requires Inv-loop μ-loop
+first-line-requires c κs = omega (arith, length-replicate {A = ℕ} 131072 0)
 
 -- the input and the text at the loop
 loop-holds : tie.Need-loop-holds Inv-loop μ-loop
 loop-holds c =
-    let told = c .before .before .before .before .before .before .before .before in
+    let made = c .before .before .before .before in
+    let told = made .before .before .before .before in
     let headed = told .before .before in
-    let planned = headed .before .before .before .before .before .before in
-    (long planned, sym (headed .heading .ensures ∙ length-replicate {A = ℕ} 131072 0))
+    let read = headed .before .before .before in
+    let planned = read .before .before .before in
+    (long planned, sym (put-long (headed .first-line .ensures) ∙ length-replicate {A = ℕ} 131072 0))
 
 turn-requires : tie.Need-turn-requires Inv-loop μ-loop
 turn-requires c κs = c .before .before .before .loop .inv .1
@@ -57,7 +60,7 @@ main-spec =
     slice-aggregate-read
     (λ c κs. search needs)
     (λ c. search needs)
-    heading-requires
+    first-line-requires
     (λ c. search needs)
     (λ c κs. search needs)
     (λ c. search needs)

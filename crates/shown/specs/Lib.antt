@@ -1,0 +1,4 @@
+pub mod Heading
+pub mod Dependence
+pub mod Lines
+pub mod Room
