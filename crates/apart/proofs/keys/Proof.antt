@@ -20,7 +20,9 @@ abbrev μ-loop : tie.MeasureT-loop
 μ-loop keys₀ calls places levels i₀ i-end keys i = i-end - i
 
 abbrev start : tie.After-levels Inv-loop μ-loop → tie.Start Inv-loop μ-loop
-start c = c .before .before .before .before .before
+start c =
+    let behind = c .before .before .before in
+    behind .before .before
 
 loop-holds : tie.Need-loop-holds Inv-loop μ-loop
 loop-holds c = (none-told _ (start c .pre .start), omega arith)

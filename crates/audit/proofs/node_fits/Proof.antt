@@ -19,7 +19,8 @@ cast-byte c =
 returns-2 : tie.Need-returns-2
 returns-2 c =
     let at-if1 = c .before .before in
-    let s = at-if1 .before .before .before .before .before in
+    let behind-s = at-if1 .before .before .before in
+    let s = behind-s .before .before in
     listed-fits _ _ _ (s .args .n) (s .pre .0) (at-if1 .if1 .left) (c .byte .result) (c .byte .ensures)
 
 pub node-fits-spec : {M : Type 1} → statement M

@@ -47,7 +47,8 @@ kept-requires c κs =
 returns-2 : tie.Need-returns-2
 returns-2 c =
     let at-kept = c .before in
-    let last = at-kept .before .before .before .before .before in
+    let behind-last = at-kept .before .before .before in
+    let last = behind-last .before .before in
     let stand = last .before .before .before in
     let at-parents = stand .before in
     let net = start at-parents .args .net in
@@ -61,7 +62,8 @@ returns-2 c =
 returns-3 : tie.Need-returns-3
 returns-3 c =
     let at-kept = c .before in
-    let last = at-kept .before .before .before .before .before in
+    let behind-last = at-kept .before .before .before in
+    let last = behind-last .before .before in
     let stand = last .before .before .before in
     let at-parents = stand .before in
     let net = start at-parents .args .net in

@@ -40,7 +40,10 @@ number-rules-requires c κs =
 
 -- behind the rules on the numbers
 abbrev numbered : tie.After-number-rules → tie.After-numbers
-numbered c = let lent = c .before .before .before .before .before in lent .before .before .before .before
+numbered c =
+    let behind-lent = c .before .before .before in
+    let lent = behind-lent .before .before in
+    lent .before .before .before .before
 
 same-length : tie.Need-same-length
 same-length c = omega (arith, numbered c .numbers .ensures .of-tickets .whole, start (right (numbered c)) .pre .of-tickets .whole)

@@ -10,7 +10,8 @@ start c = let known = c .before .before .before .before in known .before .before
 
 keys-requires : tie.Need-keys-requires
 keys-requires c κs =
-    let at-start = c .before .before .before .before .before .before in
+    let behind-start = c .before .before .before in
+    let at-start = behind-start .before .before .before in
     keyable (at-start .args .net) (at-start .pre .first) (at-start .pre .of-keys)
 
 call-rules-requires : tie.Need-call-rules-requires

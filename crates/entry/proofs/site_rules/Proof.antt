@@ -14,7 +14,10 @@ whole : (c : tie.Start) → Sized (c .args .net .plan)
 whole c = search needs
 
 abbrev start : tie.After-rooms-of → tie.Start
-start c = let lent = c .before .before .before .before .before in lent .before .before .before .before
+start c =
+    let behind-lent = c .before .before .before in
+    let lent = behind-lent .before .before in
+    lent .before .before .before .before
 
 rooms-of-requires : tie.Need-rooms-of-requires
 rooms-of-requires c κs =
@@ -53,7 +56,8 @@ settled-requires c κs =
 
 same-length-2 : tie.Need-same-length-2
 same-length-2 c =
-    let at-rooms = c .before .before .before .before .before .before .before in
+    let behind-rooms = c .before .before .before .before in
+    let at-rooms = behind-rooms .before .before .before in
     omega (arith, at-rooms .rooms-of .ensures .0, start at-rooms .pre .of-rooms .whole)
 
 returns-2 : tie.Need-returns-2
@@ -77,7 +81,8 @@ returns-2 c =
 
 same-length-3 : tie.Need-same-length-3
 same-length-3 c =
-    let at-rooms = c .before .before .before .before .before .before .before in
+    let behind-rooms = c .before .before .before .before in
+    let at-rooms = behind-rooms .before .before .before in
     omega (arith, at-rooms .rooms-of .ensures .0, start at-rooms .pre .of-rooms .whole)
 
 returns-3 : tie.Need-returns-3

@@ -12,7 +12,10 @@ returns c =
     λ after ok. handed-refused _ after _ (at-answer .answer-of .ensures (after .answer) (ok .says)) (told .0 .0) (sym (told .1) ∙ ok .says)
 
 packed-requires : tie.Need-packed-requires
-packed-requires c κs = let ok = c .before .before .before .before .before .before .pre .1 in (_, ok .packing)
+packed-requires c κs =
+    let behind-ok = c .before .before .before in
+    let ok = behind-ok .before .before .before .pre .1 in
+    (_, ok .packing)
 
 returns-2 : tie.Need-returns-2
 returns-2 c =

@@ -25,7 +25,8 @@ loop-holds c = (omega arith, λ rs cs seen j l. absurd (omega arith))
 
 shared-slice-read-t7 : tie.Need-shared-slice-read-t7 Inv-loop μ-loop
 shared-slice-read-t7 c =
-    let seen = c .before .before .before .before .before .pre .2 in
+    let behind-seen = c .before .before .before in
+    let seen = behind-seen .before .before .pre .2 in
     omega (arith, c .before .loop-test .taken, seen .of-nodes .whole, seen .counted .count, seen .counted .few)
 
 returns : tie.Need-returns Inv-loop μ-loop

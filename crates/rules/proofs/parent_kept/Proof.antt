@@ -9,7 +9,10 @@ use Rattle.rules.proofs.parent_kept.Tie as tie
 
 -- the function's entry, and the search
 abbrev start : tie.After-find → tie.Start
-start c = let else1 = c .before in else1 .before .before .before .before .before
+start c =
+    let else1 = c .before in
+    let behind = else1 .before .before .before in
+    behind .before .before
 
 -- who was found, of the net that the arrays hold at the entry
 abbrev found : (c : tie.Else2) → Parent (start (c .before) .pre .2) (c .before .before .if1 .left) (c .before .find .result)
@@ -21,7 +24,9 @@ returns : tie.Need-returns
 returns c = λ rs cs ok. none-kept rs cs _ _ (c .if1 .taken)
 
 find-requires : tie.Need-find-requires
-find-requires c κs = parent-fits (c .before .before .before .before .before .pre .2) (c .if1 .left)
+find-requires c κs =
+    let behind = c .before .before .before in
+    parent-fits (behind .before .before .pre .2) (c .if1 .left)
 
 returns-2 : tie.Need-returns-2
 returns-2 c = let at-find = c .before in λ rs cs ok. parent-lacks ok (at-find .before .if1 .left) _ (at-find .find .ensures) (c .if2 .taken)

@@ -22,7 +22,9 @@ abbrev μ-loop : tie.MeasureT-loop
 μ-loop tickets parents keys nodes used edges i₀ i = used - i
 
 abbrev start : tie.At-loop Inv-loop μ-loop → tie.Start Inv-loop μ-loop
-start c = c .before .before .before .before .before .before
+start c =
+    let behind = c .before .before .before in
+    behind .before .before .before
 
 loop-holds : tie.Need-loop-holds Inv-loop μ-loop
 loop-holds c = (omega arith, λ rs cs seen j l. absurd (omega arith))

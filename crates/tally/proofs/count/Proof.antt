@@ -22,7 +22,9 @@ abbrev μ-loop : tie.MeasureT-loop
 μ-loop keys nodes used places levels counts₀ i₀ counts i = used - i
 
 abbrev start : tie.After-slice-known Inv-loop μ-loop → tie.Start Inv-loop μ-loop
-start c = c .before .before .before .before .before
+start c =
+    let behind = c .before .before .before in
+    behind .before .before
 
 loop-holds : tie.Need-loop-holds Inv-loop μ-loop
 loop-holds c = (omega arith, λ rs cs ok. none-told rs (start c .pre .1))

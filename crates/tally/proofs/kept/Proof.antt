@@ -19,7 +19,8 @@ count-requires c κs = (let known = c .before .before .before in known .before .
 returns : tie.Need-returns
 returns c =
     let at-count = c .before .before in
-    let first = at-count .before .before .before .before .before .before in
+    let behind-first = at-count .before .before .before in
+    let first = behind-first .before .before .before in
     λ rs cs ok. (
       many-fail rs cs _ (λ i. omega (arith, first .shared-slice-known .given i)) (at-count .count .ensures rs cs ok .1 (denied _ _ refl (c .if1 .taken))),
       λ e. absurd (never-both {b = false} e refl),

@@ -35,11 +35,14 @@ slice-read-had : tie.Need-slice-read-had
 slice-read-had c = inside (c .before .before .before .before .pre .3)
 
 slice-write-counts : tie.Need-slice-write-counts
-slice-write-counts c = inside (c .before .before .before .before .before .pre .3)
+slice-write-counts c =
+    let behind = c .before .before .before in
+    inside (behind .before .before .pre .3)
 
 returns-2 : tie.Need-returns-2
 returns-2 c =
-    let start = c .before .before .before .before .before in
+    let behind-start = c .before .before .before in
+    let start = behind-start .before .before in
     (length-set {A = ℕ} (start .args .counts .now) _ _, λ rs cs call b. raised-more b (c .before .before .before .before .if1 .left) _ _ refl refl)
 
 returns-3 : tie.Need-returns-3

@@ -62,15 +62,18 @@ run-requires : tie.Need-run-requires
 run-requires c κs =
     let lent = c .before .before .before .before in
     let back = lent .before .before .before .before in
-    let sound = back .before .before .before .before .before in
+    let behind-sound = back .before .before .before in
+    let sound = behind-sound .before .before in
     (_, tested sound .prepare .ensures .runs (sound .if1 .left))
 
 -- behind the run
 abbrev sound-net : tie.After-run → tie.Else1
 sound-net c =
-    let lent = c .before .before .before .before .before in
+    let behind-lent = c .before .before .before in
+    let lent = behind-lent .before .before in
     let back = lent .before .before .before .before in
-    back .before .before .before .before .before
+    let behind = back .before .before .before in
+    behind .before .before
 
 packed-requires : tie.Need-packed-requires
 packed-requires c κs =
@@ -84,7 +87,8 @@ packed-requires c κs =
 -- behind the packed net
 abbrev ran : tie.After-packed → tie.After-run
 ran c =
-    let lent = c .before .before .before .before .before in
+    let behind-lent = c .before .before .before in
+    let lent = behind-lent .before .before in
     let back = lent .before .before .before .before in
     back .before .before .before
 
