@@ -1,2 +1,2 @@
-pub mod Held
+pub mod ReaderLaws
 pub mod Rules

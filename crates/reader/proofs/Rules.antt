@@ -13,17 +13,17 @@ use denote.Laws.{Is, shows}
 use denote.Steps.{peeks, heard}
 
 -- some result with the machine value u, beside the token, and what the callee ensures of it
-abbrev pub Answer : {M : Type 1} (𝓤 : URA M) → Lft → Share → (R : RattleType) → (R .Denot → SProp 𝓤) → Val → Item 𝓤
-Answer 𝓤 κ q R ensures u = later (some (λ (r : R .Denot). ((‵ (flft κ q) ⊛ ‵ ftrue) ⊛ ‵ (R .own r (u ∷ []))) ⊛ raw (ensures r)))
+abbrev pub AfterCall : {M : Type 1} (𝓤 : URA M) → Lft → Share → (R : RattleType) → (R .Denot → SProp 𝓤) → Val → Item 𝓤
+AfterCall 𝓤 κ q R ensures u = later (some (λ (r : R .Denot). ((‵ (flft κ q) ⊛ ‵ ftrue) ⊛ ‵ (R .own r (u ∷ []))) ⊛ raw (ensures r)))
 
 module _ {M : Type 1} {𝓤 : URA M} {H : Heap 𝓤} {A : Atoms 𝓤} {K : Type 0} {W : Given 𝓤 H A} {Γ : List (Item 𝓤)} {G : Goal 𝓤 H} where
   -- the result, the fact that its callee's clause says of it, and that u is its machine value
-  pub answers : K → Soaks G → (κ : Lft) (q : Share) (R : RattleType) (ensures : R .Denot → SProp 𝓤) (Says : R .Denot → Type 0)
+  pub after-call : K → Soaks G → (κ : Lft) (q : Share) (R : RattleType) (ensures : R .Denot → SProp 𝓤) (Says : R .Denot → Type 0)
       → ((r : R .Denot) → ent 𝓤 (ensures r) (fact 𝓤 (Says r))) → (u : Val)
       → ((r : R .Denot) → Says r → Is R r (u ∷ []) → Seq K W (‵ (R .own r (u ∷ [])) ∷ (‵ (flft κ q) ⊛ ‵ ftrue) ∷ Γ) G)
-      → Seq K W (raw (mean 𝓤 H A (Answer 𝓤 κ q R ensures u)) ∷ Γ) G
-  answers t soaks κ q R ensures Says said u on =
-      use1 W (Answer 𝓤 κ q R ensures u) (id⊢ 𝓤 _) $ await t soaks $ pick t (λ r. split t $ move t (1 ∷ []) $
+      → Seq K W (raw (mean 𝓤 H A (AfterCall 𝓤 κ q R ensures u)) ∷ Γ) G
+  after-call t soaks κ q R ensures Says said u on =
+      use1 W (AfterCall 𝓤 κ q R ensures u) (id⊢ 𝓤 _) $ await t soaks $ pick t (λ r. split t $ move t (1 ∷ []) $
       -- [what the callee ensures; the token and what the result owns]
       use1 W (raw (fact 𝓤 (Says r))) (said r) $ heard t (Says r) (λ e. split t $ move t (1 ∷ []) $
       -- [what the result owns; the token]

@@ -3,7 +3,7 @@
 // and the offset. `record_at`, whose parameters are plain, serves every other caller. An inner crate: the library's own crates alone call it.
 ghost use mathlib.Core.Path.{_≡_};
 ghost use Rattle.record.specs.Step.{next-in};
-ghost use Rattle.reader.specs.Place.{standing};
+ghost use Rattle.reader.specs.ReaderAt.{reader-at};
 use record::NextRecord;
 
 pub struct Reader<'a> {
@@ -13,7 +13,7 @@ pub struct Reader<'a> {
 
 // The reader of some bytes, at their front.
 pub fn new<'a>(bytes: &'a [u8]) -> Reader<'a>
-    ensures { λ r. ⌜ r ≡ standing (bytes .entry) 0 ⌝ }
+    ensures { λ r. ⌜ r ≡ reader-at (bytes .entry) 0 ⌝ }
 {
     Reader { bytes, at: 0 }
 }
@@ -27,7 +27,7 @@ pub fn at<'a>(reader: Reader<'a>) -> usize
 
 // The reader of the same bytes, at another offset.
 pub fn moved<'a>(reader: Reader<'a>, at: usize) -> Reader<'a>
-    ensures { λ r. ⌜ r ≡ standing (reader .entry .bytes) at ⌝ }
+    ensures { λ r. ⌜ r ≡ reader-at (reader .entry .bytes) at ⌝ }
 {
     Reader {
         bytes: reader.bytes,

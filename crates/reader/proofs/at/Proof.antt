@@ -30,14 +30,14 @@ use denote.Triple.Table.{entered}
 use denote.Triple.Walked.{says, Stays, stay-none, walkOf, AllGo, goes-none, Walks, ends-at, walked, walk-meets}
 use denote.Exit.{yes}
 use Rattle.reader.specs.declared.Reader.{Reader}
-use Rattle.reader.proofs.Held.{Held, held, held-laws, mach, Typed, typed}
+use Rattle.reader.proofs.ReaderLaws.{ReaderRow, reader-type, reader-laws, mach, Typed, typed}
 use Rattle.reader.proofs.at.Key.{name as #reader·at}
 use Rattle.reader.proofs.at as at
 use Rattle.reader.proofs.at.Statement as stated
 use Rattle.reader.proofs.at.Code as code
 
 abbrev stayed : Stays (at.ended .signature .params) (at.ended .kept)
-stayed = (stay-none Held yes, tt)
+stayed = (stay-none ReaderRow yes, tt)
 
 module _ {M : Type 1} (𝓤 : URA M) (H : Heap 𝓤) (A : Atoms 𝓤) (W : Given 𝓤 H A) (mem : Memory → SProp 𝓤) (run : Routine → Fun 𝓤) (κ : Lft) (q : Share)
     (d : Reader) where
@@ -49,7 +49,7 @@ module _ {M : Type 1} (𝓤 : URA M) (H : Heap 𝓤) (A : Atoms 𝓤) (W : Given
 
   exits : d .at < 2 ^ 64 → ent 𝓤 (onEntry 𝓤 H A at.signature (κ, tt) (q, tt) (d, tt) passed) (Post (vint w64 (d .at)))
   exits fits =
-      qed W ((‵ (flft κ q) ⊛ ‵ ftrue) ∷ ‵ (owns (Held (κ, tt) ∷ []) (d, tt) passed) ∷ []) ∵
+      qed W ((‵ (flft κ q) ⊛ ‵ ftrue) ∷ ‵ (owns (ReaderRow (κ, tt) ∷ []) (d, tt) passed) ∷ []) ∵
       suffices ! _ (ends-at 𝓤 H A at.ended stayed (at.clauses 𝓤 H A mem run) W (((κ, tt), (q, tt), tt, (d, tt), passed), tt) (vint w64 (d .at)) (d .at)
       (tt, tt) (tt, tt)) $ says ! refl $ frame ! $ frame ! $
       -- []: the facts of the number are all that the result owns
@@ -70,11 +70,11 @@ module _ {M : Type 1} (𝓤 : URA M) (H : Heap 𝓤) (A : Atoms 𝓤) (W : Given
   at-walks : Walks 𝓤 H A at.ended stayed (WpFn 𝓤 H (𝓣 .C) (𝓣 .Λ) code.function) (at.clauses 𝓤 H A mem run)
   at-walks =
       walked 𝓤 H A at.ended stayed (at.clauses 𝓤 H A mem run) (WpFn 𝓤 H (𝓣 .C) (𝓣 .Λ) code.function)
-      (λ κs. (LL.vals (held κs) (held-laws κs), tt)) (λ κs. (LL.tells (held κs) (held-laws κs), tt))
+      (λ κs. (LL.vals (reader-type κs) (reader-laws κs), tt)) (λ κs. (LL.tells (reader-type κs) (reader-laws κs), tt))
       (λ κs qs bounds a g are. via 𝓤 _ (fst∗ 𝓤 _ (emp 𝓤)) (walk 𝓤 H A W mem run (κs .0) (qs .0) (a .0) 𝓣 (typed 𝓤 H A W (κs .0) (a .0) (are .0))))
 
   goes : AllGo 𝓤 H A W 1 (at.signature .params) (at.ended .kept) stayed
-  goes = (goes-none 𝓤 H A W 1 Held yes (λ κs x f. refl), tt)
+  goes = (goes-none 𝓤 H A W 1 ReaderRow yes (λ κs x f. refl), tt)
 
   at-meets : Meets 𝓤 H A at.signature (WpFn 𝓤 H (𝓣 .C) (𝓣 .Λ) code.function) (at.spec 𝓤 H A mem run)
   at-meets =

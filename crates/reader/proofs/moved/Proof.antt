@@ -32,15 +32,14 @@ use denote.Triple.Table.{entered}
 use denote.Triple.Walked.{says, Stays, stay-none, walkOf, AllGo, goes-none, Walks, ends-at, walked, walk-meets}
 use denote.Exit.{yes}
 use Rattle.reader.specs.declared.Reader.{Reader}
-use Rattle.reader.specs.Place.{standing}
-use Rattle.reader.proofs.Held.{Held, held, held-laws, mach, fields, Typed, typed, Own, twice}
+use Rattle.reader.proofs.ReaderLaws.{ReaderRow, reader-type, reader-laws, mach, fields, Typed, typed, Own, twice}
 use Rattle.reader.proofs.moved.Key.{name as #reader·moved}
 use Rattle.reader.proofs.moved as moved
 use Rattle.reader.proofs.moved.Statement as stated
 use Rattle.reader.proofs.moved.Code as code
 
 abbrev stayed : Stays (moved.ended .signature .params) (moved.ended .kept)
-stayed = (stay-none Held yes, (stay-none (λ _. usize) yes, tt))
+stayed = (stay-none ReaderRow yes, (stay-none (λ _. usize) yes, tt))
 
 module _ {M : Type 1} (𝓤 : URA M) (H : Heap 𝓤) (A : Atoms 𝓤) (W : Given 𝓤 H A) (mem : Memory → SProp 𝓤) (run : Routine → Fun 𝓤) (κ : Lft) (q : Share)
     (d : Reader) (n : ℕ) (fits : n < 2 ^ 64) where
@@ -48,21 +47,21 @@ module _ {M : Type 1} (𝓤 : URA M) (H : Heap 𝓤) (A : Atoms 𝓤) (W : Given
   passed = (mach d ∷ [], (vint w64 n ∷ [], tt))
 
   abbrev made : Reader
-  made = standing (d .bytes) n
+  made = record { bytes = d .bytes; at = n }
 
   abbrev Post : Val → SProp 𝓤
   Post = walkOf 𝓤 H A moved.ended stayed (moved.clauses 𝓤 H A mem run) .post (((κ, tt), (q, tt), tt, (d, (n, tt)), passed), tt)
 
   exits : ent 𝓤 (onEntry 𝓤 H A moved.signature (κ, tt) (q, tt) (d, (n, tt)) passed) (Post (mach made))
   exits =
-      qed W ((‵ (flft κ q) ⊛ ‵ ftrue) ∷ ‵ (owns (Held (κ, tt) ∷ usize ∷ []) (d, (n, tt)) passed) ∷ []) ∵
+      qed W ((‵ (flft κ q) ⊛ ‵ ftrue) ∷ ‵ (owns (ReaderRow (κ, tt) ∷ usize ∷ []) (d, (n, tt)) passed) ∷ []) ∵
       suffices ! _ (ends-at 𝓤 H A moved.ended stayed (moved.clauses 𝓤 H A mem run) W (((κ, tt), (q, tt), tt, (d, (n, tt)), passed), tt) (mach made) made
       (tt, (tt, tt)) (tt, (tt, tt))) $ says ! refl $ frame ! $
       -- [what the parameters own]
       fsplit ! $ use1 W (‵ (Own 𝓤 H A W κ d) ⊛ ‵ (Own 𝓤 H A W κ d)) (twice 𝓤 H A W κ d) $ split ! $ move ! (0 ∷ 2 ∷ []) $ fjoin ! $ frame ! $
       -- [what the reader owns]: the facts of the new number take the place of the old one's
       owned ! usize (Is usize) (uint-makes 𝓤 H A W w64) n _ (refl, fits) $ move ! (1 ∷ 0 ∷ []) $
-      by ! (own-put 𝓤 H A W (held (κ, tt)) (held-laws (κ, tt)) 1 (fields κ d) n (mach d))
+      by ! (own-put 𝓤 H A W (reader-type (κ, tt)) (reader-laws (κ, tt)) 1 (fields κ d) n (mach d))
 
   walk : (𝓣 : Tables 𝓤 H) → Typed d → ent 𝓤 (onEntry 𝓤 H A moved.signature (κ, tt) (q, tt) (d, (n, tt)) passed)
       (WpFn 𝓤 H (𝓣 .C) (𝓣 .Λ) code.function (mach d ∷ vint w64 n ∷ []) Post)
@@ -83,12 +82,12 @@ module _ {M : Type 1} (𝓤 : URA M) (H : Heap 𝓤) (A : Atoms 𝓤) (W : Given
   moved-walks : Walks 𝓤 H A moved.ended stayed (WpFn 𝓤 H (𝓣 .C) (𝓣 .Λ) code.function) (moved.clauses 𝓤 H A mem run)
   moved-walks =
       walked 𝓤 H A moved.ended stayed (moved.clauses 𝓤 H A mem run) (WpFn 𝓤 H (𝓣 .C) (𝓣 .Λ) code.function)
-      (λ κs. (LL.vals (held κs) (held-laws κs), (uint-vals w64, tt))) (λ κs. (LL.tells (held κs) (held-laws κs), (uint-tells w64, tt)))
+      (λ κs. (LL.vals (reader-type κs) (reader-laws κs), (uint-vals w64, tt))) (λ κs. (LL.tells (reader-type κs) (reader-laws κs), (uint-tells w64, tt)))
       (λ κs qs bounds a g are. via 𝓤 _ (fst∗ 𝓤 _ (emp 𝓤))
       (walk 𝓤 H A W mem run (κs .0) (qs .0) (a .0) (a .1 .0) (are .1 .0 .1) 𝓣 (typed 𝓤 H A W (κs .0) (a .0) (are .0))))
 
   goes : AllGo 𝓤 H A W 1 (moved.signature .params) (moved.ended .kept) stayed
-  goes = (goes-none 𝓤 H A W 1 Held yes (λ κs x f. refl), (goes-none 𝓤 H A W 1 (λ _. usize) yes (λ κs x f. refl), tt))
+  goes = (goes-none 𝓤 H A W 1 ReaderRow yes (λ κs x f. refl), (goes-none 𝓤 H A W 1 (λ _. usize) yes (λ κs x f. refl), tt))
 
   moved-meets : Meets 𝓤 H A moved.signature (WpFn 𝓤 H (𝓣 .C) (𝓣 .Λ) code.function) (moved.spec 𝓤 H A mem run)
   moved-meets =

@@ -35,8 +35,7 @@ use denote.Triple.Table.{entered}
 use denote.Triple.Walked.{says, Stays, stay-none-slice, walkOf, AllGo, goes-none-slice, Walks, ends-at, walked, walk-meets}
 use denote.Exit.{yes}
 use Rattle.reader.specs.declared.Reader.{Reader}
-use Rattle.reader.specs.Place.{standing}
-use Rattle.reader.proofs.Held.{held, held-laws, mach}
+use Rattle.reader.proofs.ReaderLaws.{reader-type, reader-laws, mach}
 use Rattle.reader.proofs.new.Key.{name as #reader·new}
 use Rattle.reader.proofs.new as new
 use Rattle.reader.proofs.new.Statement as stated
@@ -55,7 +54,7 @@ module _ {M : Type 1} (𝓤 : URA M) (H : Heap 𝓤) (A : Atoms 𝓤) (W : Given
   at = (v ∷ [], tt)
 
   abbrev made : Reader
-  made = standing s 0
+  made = record { bytes = s; at = 0 }
 
   abbrev Post : Val → SProp 𝓤
   Post = walkOf 𝓤 H A new.ended stayed (new.clauses 𝓤 H A mem run) .post (((κ, tt), (q, tt), tt, (s, tt), at), tt)
@@ -73,7 +72,7 @@ module _ {M : Type 1} (𝓤 : URA M) (H : Heap 𝓤) (A : Atoms 𝓤) (W : Given
       move ! (0 ∷ 2 ∷ []) $ fjoin ! $ frame ! $
       -- [what the slice owns]: with the facts of the number it is what the reader owns
       nothing ! $ owned ! usize (Is usize) (uint-makes 𝓤 H A W w64) 0 _ (refl, lit< tt) $ fjoin ! $ move ! (1 ∷ 0 ∷ []) $ fjoin ! $
-      by ! (own-shut 𝓤 H A W (held (κ, tt)) (held-laws (κ, tt)) (s, (0, tt)))
+      by ! (own-shut 𝓤 H A W (reader-type (κ, tt)) (reader-laws (κ, tt)) (s, (0, tt)))
 
   walk : (𝓣 : Tables 𝓤 H) → Is (ShrSlice (named 0) κ u8) s (v ∷ [])
       → ent 𝓤 (onEntry 𝓤 H A new.signature (κ, tt) (q, tt) (s, tt) at) (WpFn 𝓤 H (𝓣 .C) (𝓣 .Λ) code.function (v ∷ []) Post)

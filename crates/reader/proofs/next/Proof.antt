@@ -46,15 +46,15 @@ use Rattle.record.proofs.next_record.Symbol as work-def
 use Rattle.record.proofs.next_record.Symbol.{name as #record·next-record}
 use Rattle.record.proofs.next_record.Met as work-thm
 use Rattle.reader.specs.declared.Reader.{Reader}
-use Rattle.reader.proofs.Held.{Held, held, held-laws, mach, slice, Typed, typed, Own, OwnSlice, taken-apart}
-use Rattle.reader.proofs.Rules.{answers}
+use Rattle.reader.proofs.ReaderLaws.{ReaderRow, reader-type, reader-laws, mach, slice-of, Typed, typed, Own, OwnSlice, taken-apart}
+use Rattle.reader.proofs.Rules.{after-call}
 use Rattle.reader.proofs.next.Key.{name as #reader·next}
 use Rattle.reader.proofs.next as next
 use Rattle.reader.proofs.next.Statement as stated
 use Rattle.reader.proofs.next.Code as code
 
 abbrev stayed : Stays (next.ended .signature .params) (next.ended .kept)
-stayed = (stay-none Held yes, tt)
+stayed = (stay-none ReaderRow yes, tt)
 
 module _ {M : Type 1} (𝓤 : URA M) (H : Heap 𝓤) (A : Atoms 𝓤) (mem : Memory → SProp 𝓤) (run : Routine → Fun 𝓤) where
   -- the contract that the proof cites
@@ -74,7 +74,7 @@ module _ {M : Type 1} (𝓤 : URA M) (H : Heap 𝓤) (A : Atoms 𝓤) (W : Given
 
   -- what `next_record` is passed
   abbrev handed : Vals work.signature (κ, tt)
-  handed = (slice d ∷ [], (vint w64 (d .at) ∷ [], tt))
+  handed = (slice-of d ∷ [], (vint w64 (d .at) ∷ [], tt))
 
   abbrev to-work : Work 𝓤 H A mem run .Ghost
   to-work = (((κ, tt), (q, tt), tt, (d .bytes, (d .at, tt)), handed), tt)
@@ -87,7 +87,7 @@ module _ {M : Type 1} (𝓤 : URA M) (H : Heap 𝓤) (A : Atoms 𝓤) (W : Given
   gives : d .at < 2 ^ 64
       → ent 𝓤 (onEntry 𝓤 H A next.signature (κ, tt) (q, tt) (d, tt) passed) (sep 𝓤 (Work 𝓤 H A mem run .pre to-work) (sem 𝓤 H A (Own 𝓤 H A W κ d)))
   gives fits =
-      qed W ((‵ (flft κ q) ⊛ ‵ ftrue) ∷ ‵ (owns (Held (κ, tt) ∷ []) (d, tt) passed) ∷ []) ∵
+      qed W ((‵ (flft κ q) ⊛ ‵ ftrue) ∷ ‵ (owns (ReaderRow (κ, tt) ∷ []) (d, tt) passed) ∷ []) ∵
       -- [the token; what the parameter owns]
       move ! (1 ∷ []) $ fsplit ! $ move ! (1 ∷ []) $ drop ! $ use1 W (‵ (OwnSlice 𝓤 H A W κ d) ⊛ ‵ (Own 𝓤 H A W κ d)) (taken-apart 𝓤 H A W κ d) $ split ! $
       -- [what the slice owns; what the reader owns; the token]
@@ -124,7 +124,7 @@ module _ {M : Type 1} (𝓤 : URA M) (H : Heap 𝓤) (A : Atoms 𝓤) (W : Given
       -- [what `next_record` asks; what the reader owns; _3; …; _2; …; _1; …; room for _0; …]
       calls-at ! (fmOf 𝓤 H (W .laws) 𝓣) (Work 𝓤 H A mem run) known to-work
       (and-then ! (load ! (from ! (stop !)) (look ! 4 refl)) (and-then ! (load ! (from ! (stop !)) (look ! 2 refl)) (no-more !))) (λ u.
-      answers ! tt κ q N.the-row ensures (λ r. r ≡ found) said u (λ r e is.
+      after-call ! tt κ q N.the-row ensures (λ r. r ≡ found) said u (λ r e is.
       -- [what the result owns; the token; what the reader owns; _3; …; _2; …; _1; …; room for _0; …]
       land ! (from ! (stop !)) (init ! 9 refl (EL.lawful N.the-type N′.the-laws 𝓤 H A W tt .typed r _ is .0)) $
       returns ! (look ! 9 refl) $ forget ! 3 refl $ forget ! 5 refl $ forget ! 7 refl $ forget ! 9 refl $
@@ -136,11 +136,11 @@ module _ {M : Type 1} (𝓤 : URA M) (H : Heap 𝓤) (A : Atoms 𝓤) (W : Given
   next-walks : Walks 𝓤 H A next.ended stayed (WpFn 𝓤 H (𝓣 .C) (𝓣 .Λ) code.function) (next.clauses 𝓤 H A mem run)
   next-walks =
       walked 𝓤 H A next.ended stayed (next.clauses 𝓤 H A mem run) (WpFn 𝓤 H (𝓣 .C) (𝓣 .Λ) code.function)
-      (λ κs. (LL.vals (held κs) (held-laws κs), tt)) (λ κs. (LL.tells (held κs) (held-laws κs), tt))
+      (λ κs. (LL.vals (reader-type κs) (reader-laws κs), tt)) (λ κs. (LL.tells (reader-type κs) (reader-laws κs), tt))
       (λ κs qs bounds a g are. via 𝓤 _ (fst∗ 𝓤 _ (emp 𝓤)) (walk 𝓤 H A W mem run (κs .0) (qs .0) (a .0) 𝓣 known (typed 𝓤 H A W (κs .0) (a .0) (are .0))))
 
   goes : AllGo 𝓤 H A W 1 (next.signature .params) (next.ended .kept) stayed
-  goes = (goes-none 𝓤 H A W 1 Held yes (λ κs x f. refl), tt)
+  goes = (goes-none 𝓤 H A W 1 ReaderRow yes (λ κs x f. refl), tt)
 
   next-meets : Meets 𝓤 H A next.signature (WpFn 𝓤 H (𝓣 .C) (𝓣 .Λ) code.function) (next.spec 𝓤 H A mem run)
   next-meets =

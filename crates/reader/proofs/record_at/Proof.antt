@@ -42,11 +42,11 @@ use Rattle.record.specs.declared.NextRecord.{NextRecord}
 use Rattle.record.proofs.NextRecord as N
 use Rattle.record.proofs.NextRecord.Laws as N′
 use Rattle.reader.specs.declared.Reader.{Reader}
-use Rattle.reader.specs.Place.{standing}
+use Rattle.reader.specs.ReaderAt.{reader-at}
 use Rattle.reader.proofs.Reader as T
 use Rattle.reader.proofs.Reader.Laws as T′
-use Rattle.reader.proofs.Held.{Held}
-use Rattle.reader.proofs.Rules.{answers}
+use Rattle.reader.proofs.ReaderLaws.{ReaderRow}
+use Rattle.reader.proofs.Rules.{after-call}
 use Rattle.reader.proofs.new as new
 use Rattle.reader.proofs.new.Symbol as new-def
 use Rattle.reader.proofs.new.Symbol.{name as #reader·new}
@@ -118,17 +118,17 @@ module _ {M : Type 1} (𝓤 : URA M) (H : Heap 𝓤) (A : Atoms 𝓤) (W : Given
   abbrev new-ensures : Reader → SProp 𝓤
   new-ensures = ensured 𝓤 H A new.ended (new.clauses 𝓤 H A mem run) (κ, tt) (s, tt) tt
 
-  new-said : (r : Reader) → ent 𝓤 (new-ensures r) (fact 𝓤 (r ≡ standing s 0))
-  new-said r = exE 𝓤 _ (λ ws. snd∗ 𝓤 (sem 𝓤 H A (lasts new.ended (κ, tt) (s, tt) ws)) (fact 𝓤 (r ≡ standing s 0)))
+  new-said : (r : Reader) → ent 𝓤 (new-ensures r) (fact 𝓤 (r ≡ reader-at s 0))
+  new-said r = exE 𝓤 _ (λ ws. snd∗ 𝓤 (sem 𝓤 H A (lasts new.ended (κ, tt) (s, tt) ws)) (fact 𝓤 (r ≡ reader-at s 0)))
 
   -- the call of `moved`, at the reader d with the machine value u
   module _ (d : Reader) (u : Val) where
     abbrev to-moved : Moved 𝓤 H A mem run .Ghost
     to-moved = (((κ, tt), (q, tt), tt, (d, (n, tt)), (u ∷ [], (vint w64 n ∷ [], tt))), tt)
 
-    goes-moved : ent 𝓤 (⋆ 𝓤 H A (‵ (Held (κ, tt) .own d (u ∷ [])) ∷ (‵ (flft κ q) ⊛ ‵ ftrue) ∷ [])) (Moved 𝓤 H A mem run .pre to-moved)
+    goes-moved : ent 𝓤 (⋆ 𝓤 H A (‵ (ReaderRow (κ, tt) .own d (u ∷ [])) ∷ (‵ (flft κ q) ⊛ ‵ ftrue) ∷ [])) (Moved 𝓤 H A mem run .pre to-moved)
     goes-moved =
-        qed W (‵ (Held (κ, tt) .own d (u ∷ [])) ∷ (‵ (flft κ q) ⊛ ‵ ftrue) ∷ []) ∵
+        qed W (‵ (ReaderRow (κ, tt) .own d (u ∷ [])) ∷ (‵ (flft κ q) ⊛ ‵ ftrue) ∷ []) ∵
         nothing ! $ owned ! usize (Is usize) (uint-makes 𝓤 H A W w64) n _ (refl, fits) $ fjoin ! $ move ! (1 ∷ 0 ∷ []) $ fjoin ! $
         -- [what `moved` is passed; the token]
         move ! (1 ∷ 0 ∷ []) $ join ! $ frame ! $ done !
@@ -136,16 +136,16 @@ module _ {M : Type 1} (𝓤 : URA M) (H : Heap 𝓤) (A : Atoms 𝓤) (W : Given
     abbrev moved-ensures : Reader → SProp 𝓤
     moved-ensures = ensured 𝓤 H A moved.ended (moved.clauses 𝓤 H A mem run) (κ, tt) (d, (n, tt)) tt
 
-    moved-said : (r : Reader) → ent 𝓤 (moved-ensures r) (fact 𝓤 (r ≡ standing (d .bytes) n))
-    moved-said r = exE 𝓤 _ (λ ws. snd∗ 𝓤 (sem 𝓤 H A (lasts moved.ended (κ, tt) (d, (n, tt)) ws)) (fact 𝓤 (r ≡ standing (d .bytes) n)))
+    moved-said : (r : Reader) → ent 𝓤 (moved-ensures r) (fact 𝓤 (r ≡ reader-at (d .bytes) n))
+    moved-said r = exE 𝓤 _ (λ ws. snd∗ 𝓤 (sem 𝓤 H A (lasts moved.ended (κ, tt) (d, (n, tt)) ws)) (fact 𝓤 (r ≡ reader-at (d .bytes) n)))
 
     -- the call of `next`
     abbrev to-next : Next 𝓤 H A mem run .Ghost
     to-next = (((κ, tt), (q, tt), tt, (d, tt), (u ∷ [], tt)), tt)
 
-    goes-next : ent 𝓤 (⋆ 𝓤 H A (‵ (Held (κ, tt) .own d (u ∷ [])) ∷ (‵ (flft κ q) ⊛ ‵ ftrue) ∷ [])) (Next 𝓤 H A mem run .pre to-next)
+    goes-next : ent 𝓤 (⋆ 𝓤 H A (‵ (ReaderRow (κ, tt) .own d (u ∷ [])) ∷ (‵ (flft κ q) ⊛ ‵ ftrue) ∷ [])) (Next 𝓤 H A mem run .pre to-next)
     goes-next =
-        qed W (‵ (Held (κ, tt) .own d (u ∷ [])) ∷ (‵ (flft κ q) ⊛ ‵ ftrue) ∷ []) ∵ nothing ! $ move ! (1 ∷ 0 ∷ []) $ fjoin ! $
+        qed W (‵ (ReaderRow (κ, tt) .own d (u ∷ [])) ∷ (‵ (flft κ q) ⊛ ‵ ftrue) ∷ []) ∵ nothing ! $ move ! (1 ∷ 0 ∷ []) $ fjoin ! $
         -- [what `next` is passed; the token]
         move ! (1 ∷ 0 ∷ []) $ join ! $ frame ! $ done !
 
@@ -156,7 +156,7 @@ module _ {M : Type 1} (𝓤 : URA M) (H : Heap 𝓤) (A : Atoms 𝓤) (W : Given
     next-said r = exE 𝓤 _ (λ ws. snd∗ 𝓤 (sem 𝓤 H A (lasts next.ended (κ, tt) (d, tt) ws)) (fact 𝓤 (r ≡ next-in (now (d .bytes)) (d .at))))
 
   -- the three facts in a row
-  found : (r₁ r₂ : Reader) (t : NextRecord) → r₁ ≡ standing s 0 → r₂ ≡ standing (r₁ .bytes) n → t ≡ next-in (now (r₂ .bytes)) (r₂ .at) → t ≡ next-in (now s) n
+  found : (r₁ r₂ : Reader) (t : NextRecord) → r₁ ≡ reader-at s 0 → r₂ ≡ reader-at (r₁ .bytes) n → t ≡ next-in (now (r₂ .bytes)) (r₂ .at) → t ≡ next-in (now s) n
   found r₁ r₂ t is-new is-moved is-next =
       is-next ∙ (ap (λ (r : Reader). next-in (now (r .bytes)) (r .at)) is-moved ∙ ap (λ (r : Reader). next-in (now (r .bytes)) n) is-new)
 
@@ -184,20 +184,20 @@ module _ {M : Type 1} (𝓤 : URA M) (H : Heap 𝓤) (A : Atoms 𝓤) (W : Given
       move ! (10 ∷ []) $ use1 W (raw (New 𝓤 H A mem run .pre to-new) ⊛ ‵ Owned) goes-new $ split ! $
       -- [what `new` asks; what the parameters own; room for _4; …; room for _3; …; _2; …; _1; …; room for _0; …]
       calls-at ! fm (New 𝓤 H A mem run) known-new to-new (and-then ! (load ! (from ! (stop !)) (look ! 8 refl)) (no-more !)) (λ u₁.
-      answers ! tt κ q (Held (κ, tt)) new-ensures (λ r. r ≡ standing s 0) new-said u₁ (λ r₁ is-new is₁.
+      after-call ! tt κ q (ReaderRow (κ, tt)) new-ensures (λ r. r ≡ reader-at s 0) new-said u₁ (λ r₁ is-new is₁.
       -- [what the reader owns; the token; what the parameters own; room for _4; …; room for _3; …; _2; …; _1; …; room for _0; …]
       land ! (from ! (stop !)) (init ! 3 refl (LL.lawful (T.the-type unnamed) (T′.the-laws unnamed) 𝓤 H A W .typed r₁ _ is₁ .0)) $
       use2 W (raw (Moved 𝓤 H A mem run .pre (to-moved r₁ u₁))) (goes-moved r₁ u₁) $
       -- [what `moved` asks; what the parameters own; _4; …; room for _3; …; _2; …; _1; …; room for _0; …]
       calls-at ! fm (Moved 𝓤 H A mem run) known-moved (to-moved r₁ u₁)
       (and-then ! (load ! (from ! (stop !)) (look ! 2 refl)) (and-then ! (load ! (from ! (stop !)) (look ! 6 refl)) (no-more !))) (λ u₂.
-      answers ! tt κ q (Held (κ, tt)) (moved-ensures r₁ u₁) (λ r. r ≡ standing (r₁ .bytes) n) (moved-said r₁ u₁) u₂ (λ r₂ is-moved is₂.
+      after-call ! tt κ q (ReaderRow (κ, tt)) (moved-ensures r₁ u₁) (λ r. r ≡ reader-at (r₁ .bytes) n) (moved-said r₁ u₁) u₂ (λ r₂ is-moved is₂.
       -- [what the reader owns; the token; what the parameters own; _4; …; room for _3; …; _2; …; _1; …; room for _0; …]
       land ! (from ! (stop !)) (init ! 5 refl (LL.lawful (T.the-type unnamed) (T′.the-laws unnamed) 𝓤 H A W .typed r₂ _ is₂ .0)) $
       use2 W (raw (Next 𝓤 H A mem run .pre (to-next r₂ u₂))) (goes-next r₂ u₂) $
       -- [what `next` asks; what the parameters own; _4; …; _3; …; _2; …; _1; …; room for _0; …]
       calls-at ! fm (Next 𝓤 H A mem run) known-next (to-next r₂ u₂) (and-then ! (load ! (from ! (stop !)) (look ! 4 refl)) (no-more !)) (λ u₃.
-      answers ! tt κ q N.the-row (next-ensures r₂ u₂) (λ t. t ≡ next-in (now (r₂ .bytes)) (r₂ .at)) (next-said r₂ u₂) u₃ (λ t is-next is₃.
+      after-call ! tt κ q N.the-row (next-ensures r₂ u₂) (λ t. t ≡ next-in (now (r₂ .bytes)) (r₂ .at)) (next-said r₂ u₂) u₃ (λ t is-next is₃.
       -- [what the result owns; the token; what the parameters own; _4; …; _3; …; _2; …; _1; …; room for _0; …]
       land ! (from ! (stop !)) (init ! 11 refl (EL.lawful N.the-type N′.the-laws 𝓤 H A W tt .typed t _ is₃ .0)) $
       returns ! (look ! 11 refl) $ forget ! 3 refl $ forget ! 5 refl $ forget ! 7 refl $ forget ! 9 refl $ forget ! 11 refl $

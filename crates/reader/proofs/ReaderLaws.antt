@@ -27,23 +27,23 @@ use Rattle.reader.proofs.Reader as T
 use Rattle.reader.proofs.Reader.Laws as T′
 
 -- the reader's type and its laws, over a signature's lifetimes
-abbrev pub Held : Lfts 1 → RattleType
-Held κs = T.the-row (namedLft 1 0 tt κs)
+abbrev pub ReaderRow : Lfts 1 → RattleType
+ReaderRow κs = T.the-row (namedLft 1 0 tt κs)
 
-abbrev pub held : Lfts 1 → Declared
-held κs = T.the-type (namedLft 1 0 tt κs)
+abbrev pub reader-type : Lfts 1 → Declared
+reader-type κs = T.the-type (namedLft 1 0 tt κs)
 
-abbrev pub held-laws : (κs : Lfts 1) → LL.Laws (held κs)
-held-laws κs = T′.the-laws (namedLft 1 0 tt κs)
+abbrev pub reader-laws : (κs : Lfts 1) → LL.Laws (reader-type κs)
+reader-laws κs = T′.the-laws (namedLft 1 0 tt κs)
 
 -- the machine values of a reader and of the slice that it holds
 abbrev pub mach : Reader → Val
 mach d = T′.lowered d
 
-abbrev pub slice : Reader → Val
-slice d = sliceVal (d .bytes .ptr) (length (d .bytes .now))
+abbrev pub slice-of : Reader → Val
+slice-of d = sliceVal (d .bytes .ptr) (length (d .bytes .now))
 
-abbrev pub fields : (κ : Lft) (d : Reader) → Values (held (κ, tt) .parts)
+abbrev pub fields : (κ : Lft) (d : Reader) → Values (reader-type (κ, tt) .parts)
 fields κ d = (d .bytes, (d .at, tt))
 
 -- its typing, as the code's parameter has it
@@ -52,25 +52,30 @@ Typed d = Holds (hasTy (T′.mir (named 0)) (mach d)) × WT (mach d)
 
 module _ {M : Type 1} (𝓤 : URA M) (H : Heap 𝓤) (A : Atoms 𝓤) (W : Given 𝓤 H A) (κ : Lft) (d : Reader) where
   abbrev pub Own : Fml
-  Own = Held (κ, tt) .own d (mach d ∷ [])
+  Own = ReaderRow (κ, tt) .own d (mach d ∷ [])
 
   abbrev pub OwnSlice : Fml
-  OwnSlice = ShrSlice (named 0) κ u8 .own (d .bytes) (slice d ∷ [])
+  OwnSlice = ShrSlice (named 0) κ u8 .own (d .bytes) (slice-of d ∷ [])
 
-  pub typed : Is (Held (κ, tt)) d (mach d ∷ []) → Typed d
-  typed is = LL.lawful (held (κ, tt)) (held-laws (κ, tt)) 𝓤 H A W .typed d (mach d ∷ []) is .0
+  abbrev D : Declared
+  D = reader-type (κ, tt)
+
+  abbrev L : LL.Laws D
+  L = reader-laws (κ, tt)
+
+  pub typed : Is (ReaderRow (κ, tt)) d (mach d ∷ []) → Typed d
+  typed is = LL.lawful D L 𝓤 H A W .typed d (mach d ∷ []) is .0
 
   -- a lent slice can be lent twice
   pub twice : ent 𝓤 (sem 𝓤 H A Own) (sep 𝓤 (sem 𝓤 H A Own) (sem 𝓤 H A Own))
-  twice = LL.copy (held (κ, tt)) (T′.the-copy (namedLft 1 0 tt (κ, tt))) 𝓤 H A W .twice d (mach d ∷ [])
+  twice = LL.copy D (T′.the-copy (namedLft 1 0 tt (κ, tt))) 𝓤 H A W .twice d (mach d ∷ [])
 
-  -- of a reader that is kept, what the slice owns
+  -- what the slice owns, of a reader that is kept
   pub taken-apart : ent 𝓤 (sem 𝓤 H A Own) (sep 𝓤 (sem 𝓤 H A OwnSlice) (sem 𝓤 H A Own))
   taken-apart =
       qed W (‵ Own ∷ []) ∵ use1 W (‵ Own ⊛ ‵ Own) twice $ split ! $
-      use1 W (given (mach d ∷ [] ≡ mach d ∷ []) (‵ (all-own (held (κ, tt) .parts) (held-laws (κ, tt)) (fields κ d))))
-      (own-open 𝓤 H A W (held (κ, tt)) (held-laws (κ, tt)) (fields κ d) (mach d)) $ learn ! (λ _.
-      use1 W (‵ (ownAt (held (κ, tt) .parts) (held-laws (κ, tt)) 0 (d .bytes)) ⊛ ‵ (rest (held (κ, tt) .parts) (held-laws (κ, tt)) 0 (fields κ d)))
-      (own-out 𝓤 H A W (held (κ, tt) .parts) (held-laws (κ, tt)) 0 (fields κ d)) $ split ! $
+      -- [what the reader owns; the same]
+      use1 W (given (mach d ∷ [] ≡ mach d ∷ []) (‵ (all-own (D .parts) L (fields κ d)))) (own-open 𝓤 H A W D L (fields κ d) (mach d)) $ learn ! (λ _.
+      use1 W (‵ (ownAt (D .parts) L 0 (d .bytes)) ⊛ ‵ (rest (D .parts) L 0 (fields κ d))) (own-out 𝓤 H A W (D .parts) L 0 (fields κ d)) $ split ! $
       -- [what the slice owns; what the number owns; what the reader owns]
       move ! (1 ∷ []) $ drop ! $ frame ! $ done !)

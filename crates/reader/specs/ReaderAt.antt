@@ -4,5 +4,5 @@ use mathlib.Core.List.{List}
 use denote.Ref.{RefT}
 use Rattle.reader.specs.declared.Reader.{Reader}
 
-abbrev pub standing : RefT (List ℕ) → ℕ → Reader
-standing bytes at = record { bytes = bytes; at = at }
+abbrev pub reader-at : RefT (List ℕ) → ℕ → Reader
+reader-at bytes at = record { bytes = bytes; at = at }
