@@ -69,7 +69,7 @@ pub fn scan(bytes: &[u8]) -> PlanRead
     let mut last = PlanRecord::End;
     let mut at = 0;
     loop {
-        let found = record::next_record(bytes, at);
+        let found = reader::record_at(bytes, at);
         let NextRecord::Whole(next, behind) = found else {
             return refused(unread(found), at, none);
         };

@@ -38,7 +38,7 @@ none-at : (c : tie.At-loop Inv-loop μ-loop) → c .before .empty .result ≡ em
 none-at c = c .before .empty .ensures
 
 -- a whole record was found
-abbrev at-next : tie.After-found Inv-loop μ-loop → tie.After-next-record Inv-loop μ-loop
+abbrev at-next : tie.After-found Inv-loop μ-loop → tie.After-record-at Inv-loop μ-loop
 at-next c = c .before .before
 
 -- it was checked
@@ -51,7 +51,7 @@ at-check c = c .before .before
 
 found-there : (c : tie.After-found Inv-loop μ-loop)
     → next-in (bytes-at (at-next c .before)) (at-next c .before .loop .at) ≡ NextRecord.Whole (c .found .given .0 .0) (c .found .given .0 .1 .0)
-found-there c = sym (at-next c .next-record .ensures) ∙ c .found .given .1
+found-there c = sym (at-next c .record-at .ensures) ∙ c .found .given .1
 
 passed : (c : tie.After-enum-told Inv-loop μ-loop)
     → let found = at-found (at-check c) in
@@ -93,9 +93,9 @@ returns c =
     let unread = c .before in
     let next = unread .before .before in
     let on = next .before .loop in
-    let found = next .next-record .result in
+    let found = next .record-at .result in
     refused-answers (unread .unread .result) (on .at) (c .refused .ensures) (none-at (next .before))
-    (unread-stops (bytes-at (next .before)) (on .plan) (on .last) (on .at) (on .inv) found (sym (next .next-record .ensures)) (unread .before .match .keys2)
+    (unread-stops (bytes-at (next .before)) (on .plan) (on .last) (on .at) (on .inv) found (sym (next .record-at .ensures)) (unread .before .match .keys2)
     ∙ ap (λ (why : PlanRefusal). refused-at (refusal-number why) (on .at)) (sym (unread .unread .ensures)))
 
 returns-2 : tie.Need-returns-2 Inv-loop μ-loop
