@@ -12,6 +12,7 @@ use value::CommandAnswer;
 use value::Commanded;
 use value::Net;
 use value::NetRoom;
+ghost use Prim.Native.Nat.{_≤_};
 
 // The bytes of input that are held.
 const MOST: usize = 65536;
@@ -21,12 +22,15 @@ struct Answered {
     refused: u64,
 }
 
-fn refuses(answer: CommandAnswer) -> bool {
+// 1 for a refusal.
+fn refusals(answer: CommandAnswer) -> u64
+    ensures { λ r. ⌜ r ≤ 1 ⌝ }
+{
     match answer {
-        CommandAnswer::Refused(_) => true,
-        CommandAnswer::Active => false,
-        CommandAnswer::Waiting => false,
-        CommandAnswer::Ended(_) => false,
+        CommandAnswer::Refused(_) => 1,
+        CommandAnswer::Active => 0,
+        CommandAnswer::Waiting => 0,
+        CommandAnswer::Ended(_) => 0,
     }
 }
 
@@ -82,9 +86,7 @@ fn all(first: Net, bytes: &[u8], from: usize) -> Answered {
         net = done.net;
         at = behind;
         commands += 1;
-        if refuses(told) {
-            refused += 1;
-        }
+        refused += refusals(told);
     }
     Answered { commands, refused }
 }
