@@ -20,8 +20,8 @@ size-told (suc n) = some (suc n)
 -- a record's kind and body
 abbrev pub request-of : ℕ → List ℕ → Request
 request-of kind body =
-    cond (eqb kind 0x10) (Request.Start (word body 0) (getD body 2 0))
-    (cond (eqb kind 0x11) (Request.Call (word body 0) (word body 2) (getD body 4 0))
+    cond (eqb kind 0x10) (Request.Start (getD body 2 0) (word body 0))
+    (cond (eqb kind 0x11) (Request.Call (getD body 4 0) (word body 0) (word body 2))
     (cond (eqb kind 0x12) (Request.Return (word body 0))
     (cond (eqb kind 0x13) (Request.Ask (word body 0)) (Request.Room (getD body 0 0) (getD body 1 0)))))
 
@@ -37,8 +37,8 @@ next-in bytes at = from-next (next command-kinds (drop at bytes)) at
 
 -- the model's request
 abbrev pub asked : Request → transcript.Request
-asked (Request.Start ticket node) = command (start ticket node)
-asked (Request.Call parent ticket node) = command (call parent ticket node)
+asked (Request.Start node ticket) = command (start ticket node)
+asked (Request.Call node parent ticket) = command (call parent ticket node)
 asked (Request.Return ticket) = command (return ticket)
 asked (Request.Ask ticket) = question ticket
 asked (Request.Room site level) = room-question site level

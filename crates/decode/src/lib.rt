@@ -4,12 +4,13 @@ ghost use mathlib.Core.Path.{_≡_};
 ghost use Rattle.model.specs.Transcript.{command-kinds};
 ghost use Rattle.decode.specs.Asked.{size-told, request-of, next-in};
 
-// What a record asks for. Tickets have two bytes, the rest one.
+// What a record asks for. Tickets have two bytes, the rest one; the node stands first, so that in every case the tickets lie at the same places and the
+// back end keeps them apart.
 pub enum Request {
-    // Ticket, node.
-    Start(u16, u8),
-    // Parent, ticket, node.
-    Call(u16, u16, u8),
+    // Node, ticket.
+    Start(u8, u16),
+    // Node, parent, ticket.
+    Call(u8, u16, u16),
     Return(u16),
     Ask(u16),
     // Site, level.
@@ -57,11 +58,11 @@ fn request_in(kind: u8, body: &[u8]) -> Request
     let third = record::byte(body, 2);
     let ticket = word(first, second);
     match kind {
-        0x10 => Request::Start(ticket, third),
+        0x10 => Request::Start(third, ticket),
         0x11 => {
             let fourth = record::byte(body, 3);
             let called = word(third, fourth);
-            Request::Call(ticket, called, record::byte(body, 4))
+            Request::Call(record::byte(body, 4), ticket, called)
         }
         0x12 => Request::Return(ticket),
         0x13 => Request::Ask(ticket),

@@ -142,14 +142,14 @@ fn command(net: Net, request: Request) -> Commanded
 pub fn start(net: Net, ticket: Ticket, node: Node) -> Commanded
     ensures { λ r. ⌜ r ≡ command-answered net (start (ticket .0) (node .0)) ⌝ }
 {
-    command(net, Request::Start(ticket.0, node.0))
+    command(net, Request::Start(node.0, ticket.0))
 }
 
 // A call: 20, 21, 23, 24, 22, 25, 26.
 pub fn call(net: Net, parent: Ticket, ticket: Ticket, node: Node) -> Commanded
     ensures { λ r. ⌜ r ≡ command-answered net (call (parent .0) (ticket .0) (node .0)) ⌝ }
 {
-    command(net, Request::Call(parent.0, ticket.0, node.0))
+    command(net, Request::Call(node.0, parent.0, ticket.0))
 }
 
 // A return: 27, 28, 29. (`return` is a word of the language.)

@@ -54,8 +54,8 @@ fn room_told(answer: NetRoom) -> CommandAnswer {
 // The public function of a request.
 fn answer(net: Net, request: Request) -> Commanded {
     match request {
-        Request::Start(ticket, node) => net::start(net, Ticket(ticket), Node(node)),
-        Request::Call(parent, ticket, node) => {
+        Request::Start(node, ticket) => net::start(net, Ticket(ticket), Node(node)),
+        Request::Call(node, parent, ticket) => {
             net::call(net, Ticket(parent), Ticket(ticket), Node(node))
         }
         Request::Return(ticket) => net::finish(net, Ticket(ticket)),

@@ -29,12 +29,12 @@ module _ (net : Core) {b : Arrays} {used : ℕ} {what : Printed} {most-of places
   known-as : {q r : Request} → q ≡ r → Answered net r b used what most-of places levels edges → Answered net q b used what most-of places levels edges
   known-as e h = rw e h
 
-  pub started : {q : Request} (ticket node : ℕ) → q ≡ Request.Start ticket node
+  pub started : {q : Request} (ticket node : ℕ) → q ≡ Request.Start node ticket
       → Stepped (step net (start ticket node)) b used what most-of places levels edges → Answered net q b used what most-of places levels edges
   unfolding after
   started ticket node e s = known-as e (record { says = s .says; runs-on = s .runs-on })
 
-  pub called : {q : Request} (parent ticket node : ℕ) → q ≡ Request.Call parent ticket node
+  pub called : {q : Request} (parent ticket node : ℕ) → q ≡ Request.Call node parent ticket
       → Stepped (step net (call parent ticket node)) b used what most-of places levels edges → Answered net q b used what most-of places levels edges
   unfolding after
   called parent ticket node e s = known-as e (record { says = s .says; runs-on = s .runs-on })
@@ -57,8 +57,8 @@ module _ (net : Core) {b : Arrays} {used : ℕ} {what : Printed} {most-of places
 
 -- the line that is printed of an answer is the request's
 line-is : (net : Core) (q : Request) (what : Printed) → what ≡ answer-to net (asked q) → line net (asked q) ≡ request-line q what
-line-is net (Request.Start ticket node) what e = start-line net ticket node what (sym e)
-line-is net (Request.Call parent ticket node) what e = call-line net parent ticket node what (sym e)
+line-is net (Request.Start node ticket) what e = start-line net ticket node what (sym e)
+line-is net (Request.Call node parent ticket) what e = call-line net parent ticket node what (sym e)
 line-is net (Request.Return ticket) what e = return-line net ticket what (sym e)
 line-is net (Request.Ask ticket) what e = ask-line net ticket what (sym e)
 line-is net (Request.Room s k) what e = room-line net s k what (sym e)

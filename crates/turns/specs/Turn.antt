@@ -18,8 +18,8 @@ use Rattle.steps.specs.Running.{Running}
 
 -- the line of a request: its letter, its numbers and the answer
 abbrev pub request-line : Request → Printed → Text
-request-line (Request.Start ticket node) what = line-text 83 ticket what
-request-line (Request.Call parent ticket node) what = line2-text 67 parent ticket what
+request-line (Request.Start node ticket) what = line-text 83 ticket what
+request-line (Request.Call node parent ticket) what = line2-text 67 parent ticket what
 request-line (Request.Return ticket) what = line-text 69 ticket what
 request-line (Request.Ask ticket) what = line-text 81 ticket what
 request-line (Request.Room site level) what = line2-text 77 site level what

@@ -23,8 +23,8 @@ fn print(text: &mut [u8], at: usize, request: Request, what: Printed) -> usize
     ensures { λ r. ⌜ Put (now (text .entry)) at (request-line request what) (now (text .exit)) r ⌝ }
 {
     match request {
-        Request::Start(ticket, _) => text::line(text, at, b'S', ticket, what),
-        Request::Call(parent, ticket, _) => text::line2(text, at, b'C', parent, ticket, what),
+        Request::Start(_, ticket) => text::line(text, at, b'S', ticket, what),
+        Request::Call(_, parent, ticket) => text::line2(text, at, b'C', parent, ticket, what),
         Request::Return(ticket) => text::line(text, at, b'E', ticket, what),
         Request::Ask(ticket) => text::line(text, at, b'Q', ticket, what),
         Request::Room(site, level) => {
@@ -51,7 +51,7 @@ pub fn answer<'a>(
     ensures { λ r. ⌜ Answers (arrays (now (tickets .entry)) (now (parents .entry)) (now (keys .entry)) (now (nodes .entry)) (now (rooms .entry))) (arrays (now (tickets .exit)) (now (parents .exit)) (now (keys .exit)) (now (nodes .exit)) (now (rooms .exit))) used (r .used) (r .what) (now (threads .entry)) (now (places .entry)) (now (levels .entry)) (now (edges .entry)) request ⌝ }
 {
     match request {
-        Request::Start(ticket, node) => steps::enter(
+        Request::Start(node, ticket) => steps::enter(
             tickets,
             parents,
             keys,
@@ -67,7 +67,7 @@ pub fn answer<'a>(
             ticket,
             node,
         ),
-        Request::Call(parent, ticket, node) => steps::enter(
+        Request::Call(node, parent, ticket) => steps::enter(
             tickets,
             parents,
             keys,
