@@ -5,7 +5,8 @@ ghost use mathlib.Core.Path.{_≡_};
 ghost use mathlib.Core.Bool.{_&&_, _||_};
 ghost use lib.Dec.{eqb};
 ghost use lib.ListN.{length};
-ghost use Rattle.ids.specs.Limits.{nodes};
+ghost use Prim.Native.Nat.{min};
+ghost use Rattle.ids.specs.Limits.{nodes, most-edges};
 ghost use Rattle.model.specs.Plan.{has-edge};
 ghost use Rattle.model.specs.PlanValue.{records-of};
 ghost use Rattle.links.specs.Rows.{linked, RowsTell};
@@ -27,16 +28,24 @@ fn link(rows: &mut [u64], from: u8, to: u8)
     rows[row] = words::with(rows[row], to);
 }
 
+// How many edges have places.
+fn placed(edges: usize) -> usize
+    ensures { λ r. ⌜ r ≡ min edges most-edges ⌝ }
+{
+    if edges < Node::EDGES {
+        return edges;
+    }
+    Node::EDGES
+}
+
 // The call edges.
 pub fn call_rows(plan: Plan) -> Rows
     ensures { λ r. ⌜ RowsTell (r .rows) (has-edge (records-of plan)) ⌝ }
 {
     let mut rows = [0u64; Node::COUNT];
+    let count = placed(plan.edges);
     let mut i = 0;
-    while i < Node::EDGES {
-        if plan.edges <= i {
-            return Rows { rows };
-        }
+    while i < count {
         link(&mut rows, plan.callers[i], plan.callees[i]);
         i += 1;
     }
