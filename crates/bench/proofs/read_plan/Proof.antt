@@ -14,9 +14,11 @@ Inv-loop input₀ have₀ pieces₀ input have pieces = length input ≡ length 
 abbrev μ-loop : tie.MeasureT-loop
 μ-loop input₀ have₀ pieces₀ input have pieces = pieces
 
--- behind a read
-kept : (c : tie.After-more Inv-loop μ-loop)
-    → length (c .more .last .0) ≡ length (c .before .before .before .before .before .args .input .now)
+-- the function's entry, and the input behind a read
+abbrev start : tie.After-more Inv-loop μ-loop → tie.Start Inv-loop μ-loop
+start c = let at-loop = c .before .before .before in at-loop .before .before
+
+kept : (c : tie.After-more Inv-loop μ-loop) → length (c .more .last .0) ≡ length (start c .args .input .now)
 kept c = c .more .ensures ∙ c .before .before .before .loop .inv
 
 same-length : tie.Need-same-length Inv-loop μ-loop
@@ -33,17 +35,24 @@ returns-2 c = kept (c .before .before .before .before)
 
 slice-aggregate-undecided : tie.Need-slice-aggregate-undecided Inv-loop μ-loop
 slice-aggregate-undecided c =
-    let at-more = c .before .before .before .before .before in
+    let behind-more = c .before .before .before in
+    let at-more = behind-more .before .before in
     sym (length-take-le (at-more .more .result) (at-more .more .last .0) (c .before .if2 .left))
 
 same-length-3 : tie.Need-same-length-3 Inv-loop μ-loop
-same-length-3 c = kept (c .before .before .before .before .before .before .before)
+same-length-3 c =
+    let behind = c .before .before .before .before in
+    kept (behind .before .before .before)
 
 returns-3 : tie.Need-returns-3 Inv-loop μ-loop
-returns-3 c = kept (c .before .before .before .before .before .before .before)
+returns-3 c =
+    let behind = c .before .before .before .before in
+    kept (behind .before .before .before)
 
 loop-again : tie.Need-loop-again Inv-loop μ-loop
-loop-again c = kept (c .before .before .before .before .before .before .before)
+loop-again c =
+    let behind = c .before .before .before .before in
+    kept (behind .before .before .before)
 
 same-length-4 : tie.Need-same-length-4 Inv-loop μ-loop
 same-length-4 c = c .before .loop .inv

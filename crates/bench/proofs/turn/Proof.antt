@@ -31,8 +31,10 @@ same-length-8 c =
 returns-5 : tie.Need-returns-5
 returns-5 c =
     let at-close = c .before .before .before in
-    let at-wanted = c .before .before .before .before .before .before .before .before in
-    let at-carry = at-wanted .before .before .before .before .before in
+    let behind-wanted = c .before .before .before .before in
+    let at-wanted = behind-wanted .before .before .before .before in
+    let behind-carry = at-wanted .before .before .before in
+    let at-carry = behind-carry .before .before in
     (at-wanted .wanted .ensures ∙ at-carry .carry .ensures, at-close .close .ensures ∙ text-long (ran at-close .run .ensures))
 
 pub turn-spec : {M : Type 1} → statement M
