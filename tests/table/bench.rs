@@ -17,7 +17,7 @@ pub fn command_length(kind: u8) -> Option<usize> {
     match kind {
         0x10 => Some(3),
         0x11 => Some(5),
-        0x12 | 0x13 | 0x14 => Some(2),
+        0x12 | 0x13 | 0x14 | 0x15 => Some(2),
         _ => None,
     }
 }
@@ -38,6 +38,7 @@ fn command(net: &mut Net, kind: u8, b: &[u8], wrong: Wrong) -> (String, bool) {
         0x11 => (format!("C {} {}", w(0), w(2)), net.call(w(0), w(2), b[4])),
         0x12 => (format!("E {}", w(0)), net.back(w(0))),
         0x13 => (format!("Q {}", w(0)), net.ask(w(0))),
+        0x15 => (format!("X {}", w(0)), net.take_back(w(0))),
         _ => (format!("M {} {}", b[0], b[1]), net.room(b[0], b[1])),
     };
     let tail = match answer {
@@ -45,6 +46,7 @@ fn command(net: &mut Net, kind: u8, b: &[u8], wrong: Wrong) -> (String, bool) {
         Answer::Waiting => "W".to_string(),
         Answer::Refused(no) => format!("R {no}"),
         Answer::Served(ticket) => ticket.to_string(),
+        Answer::TakenBack => "0".to_string(),
         Answer::Asked(c) => c.to_string(),
         Answer::Room(n) => n.to_string(),
     };
@@ -55,7 +57,7 @@ pub fn text(input: &[u8], wrong: Wrong) -> String {
     run(input, wrong, false).text
 }
 
-/// The whole text; with `check`, demand 3 is looked at after every command.
+/// The whole text; with `check`, demand 3 is looked at after every command, and what a taking back has left alone.
 pub fn run(input: &[u8], wrong: Wrong, check: bool) -> Run {
     let (plan, used) = match plan::read(input, wrong) {
         // "or `plan R`, refusal, offset, and nothing more"
@@ -79,6 +81,7 @@ pub fn run(input: &[u8], wrong: Wrong, check: bool) -> Run {
             text += &format!("bad 1 {}\n", at - from);
             return Run { text, broken, shape };
         };
+        let before = (check && kind == 0x15).then(|| net.clone());
         let (line, no) = command(&mut net, kind, body, wrong);
         text += &line;
         text.push('\n');
@@ -88,7 +91,9 @@ pub fn run(input: &[u8], wrong: Wrong, check: bool) -> Run {
             shape = higher(shape, net.shape());
         }
         if check && broken.is_none() {
-            broken = net.broken().map(|b| format!("after command {count}, {line}: {b}"));
+            let gone = (!no).then(|| word(body, wrong));
+            let moved = before.and_then(|b| net.moved(&b, gone));
+            broken = net.broken().or(moved).map(|b| format!("after command {count}, {line}: {b}"));
         }
         at += 1 + length;
     }

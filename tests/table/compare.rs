@@ -74,7 +74,25 @@ fn wanted() -> Vec<String> {
     let reader = (1..=9).map(|n| format!("plan R {n}"));
     let commands = (20..=30).map(|n| format!("R {n}"));
     let rest = ["plan", "G", "W", "Q A", "Q W", "Q N", "E admitted", "E 0", "M number", "done", "bad 1", "bad 2"];
-    reader.chain(commands).chain(rest.iter().map(|r| r.to_string())).collect()
+    let back = ["X 0", "X R 27", "X 0 R 27", "X R 34", FREED, REUSED];
+    reader.chain(commands).chain(rest.iter().chain(&back).map(|r| r.to_string())).collect()
+}
+
+/// A parent's return refused 29, a taking back, the same return accepted.
+const FREED: &str = "parent freed by X";
+/// A start refused 26, a taking back, the same start accepted.
+const REUSED: &str = "place used again after X";
+
+/// What three lines in a row show of a taking back between two commands of the same words.
+fn shows_around(lines: &[&str]) -> Option<&'static str> {
+    let [before, between, after] = lines else { return None };
+    let again = |refusal: &str| before.strip_suffix(refusal).is_some_and(|head| after.starts_with(head));
+    let accepted = between.starts_with("X ") && !between.contains('R') && !after.contains('R');
+    match before.as_bytes()[0] {
+        b'E' if accepted && again("R 29") => Some(FREED),
+        b'S' if accepted && again("R 26") => Some(REUSED),
+        _ => None,
+    }
 }
 
 /// What a line of the text shows.
@@ -85,6 +103,8 @@ fn shows(line: &str) -> String {
         "plan" if words[1] == "R" => format!("plan R {}", words[2]),
         "plan" | "done" => words[0].to_string(),
         "bad" => format!("bad {}", words[1]),
+        "X" if words[1] == "0" => words.join(" "),
+        "X" => format!("X {}", words[2..].join(" ")),
         _ if words[words.len() - 2] == "R" => format!("R {last}"),
         "S" | "C" => last.to_string(),
         "E" if last != "0" => "E admitted".to_string(),
@@ -111,6 +131,10 @@ impl Seen {
     fn add(&mut self, run: &bench::Run) {
         for line in run.text.lines() {
             *self.0.entry(shows(line)).or_default() += 1;
+        }
+        let lines: Vec<&str> = run.text.lines().collect();
+        for shown in lines.windows(3).filter_map(shows_around) {
+            *self.0.entry(shown.to_string()).or_default() += 1;
         }
         self.1 = bench::higher(self.1, run.shape);
     }
@@ -367,7 +391,7 @@ pub fn vectors(file: &str, program: Option<&str>) -> bool {
     score.close()
 }
 
-/// The check of demand 3 has teeth: under these wrong rules it must find a broken state.
+/// The checks of `bench::run` have teeth: under these wrong rules they must find a broken state.
 pub fn teeth(seeds: u64) -> bool {
     let mut score = Score::default();
     let loops = "01 00 02 01 01 02 02 00 00 00 02 01 01 00 02 02 01 00 02 03 00 00 03 00 01 03 02 03 04 \
@@ -376,10 +400,13 @@ pub fn teeth(seeds: u64) -> bool {
     let stuck = bench::run(&bytes_of(loops).unwrap(), Wrong::StrictLevels, true).broken;
     score.add(stuck.as_deref().is_some_and(|b| b.contains("no active call without an open child")));
     println!("strict-levels: {}", stuck.unwrap_or("nothing broken".to_string()));
-    for name in ["bad-p", "limit-up", "limit-down", "first-waiter", "nobody-served", "no-children", "basic-p"] {
+    let levels = ["bad-p", "limit-up", "limit-down", "first-waiter", "nobody-served", "no-children", "basic-p"];
+    let back = ["back-serves", "back-active", "back-turns", "back-last-moves"];
+    for name in levels.into_iter().chain(back) {
         let rule = wrong::named(name).unwrap();
         let broken = (1..=seeds).find_map(|seed| bench::run(&make::input(seed, "levels"), rule, true).broken);
-        score.add(broken.is_some());
+        // What a taking back breaks is found at its own line, not at a later one.
+        score.add(broken.as_ref().is_some_and(|b| !back.contains(&name) || b.contains(", X ")));
         println!("{name}: {}", broken.unwrap_or("nothing broken".to_string()));
     }
     score.close()

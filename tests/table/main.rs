@@ -15,8 +15,8 @@ table make SEED KIND  one input; KIND is one of those `table kinds` prints, or `
 table kinds           the kinds of inputs
 table rules           the wrong rules
 table compare PROGRAM SEEDS
-table states SEEDS    demand 3 on every state of the made runs
-table teeth SEEDS     wrong rules that must break demand 3
+table states SEEDS    demand 3 on every state of the made runs, and what a taking back leaves alone
+table teeth SEEDS     wrong rules that must break these
 table mutants SEEDS   wrong rules that must be told apart
 table explain RULE SEEDS
 table vectors FILE [PROGRAM]

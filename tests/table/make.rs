@@ -183,6 +183,7 @@ impl Busy {
             0x10 => drop(self.net.start(w(1), command[3])),
             0x11 => drop(self.net.call(w(1), w(3), command[5])),
             0x12 => drop(self.net.back(w(1))),
+            0x15 => drop(self.net.take_back(w(1))),
             _ => {}
         }
         if command[0] != 0x14 && !self.used.contains(&w(1)) {
@@ -259,6 +260,44 @@ impl Busy {
         found.is_some()
     }
 
+    /// A taking back: mostly of a waiting call, most of these at the busy site; or of an active call, a closed one or 0.
+    fn take_back(&mut self, dice: &mut Dice) {
+        let here = |c: &Call| !c.active && self.net.place(c).0 == self.site;
+        let found = match dice.below(10) {
+            0 => self.some_call(dice, |c| c.active),
+            1 => dice.pick(&self.used).copied(),
+            2 => return self.free_parent(dice),
+            3 | 4 => self.some_call(dice, |c| !c.active),
+            _ => self.some_call(dice, here),
+        };
+        if let Some(ticket) = found {
+            self.give(with_ticket(0x15, ticket));
+        }
+    }
+
+    /// A parent that can return only once its one open child, which waits, is gone: its return before and after.
+    fn free_parent(&mut self, dice: &mut Dice) {
+        let siblings = |p: u16| self.net.calls.iter().filter(|c| c.parent == p).count();
+        let Some(child) = self.some_call(dice, |c| !c.active && c.parent != 0 && siblings(c.parent) == 1) else { return };
+        let parent = self.net.find(child).unwrap().parent;
+        for (kind, ticket) in [(0x12, parent), (0x15, child), (0x12, parent)] {
+            self.give(with_ticket(kind, ticket));
+        }
+    }
+
+    /// With 256 calls open: a start that is refused, a taking back, the same start accepted, and one more refused.
+    fn use_place_again(&mut self, dice: &mut Dice) {
+        let Some(gone) = self.some_call(dice, |c| !c.active).filter(|_| self.net.calls.len() == 256) else { return };
+        let nodes: Vec<u8> = self.net.plan.nodes.iter().map(|n| n.0).collect();
+        let node = *dice.pick(&nodes).unwrap();
+        let ticket = self.fresh(dice);
+        self.give(start(ticket, node));
+        self.give(with_ticket(0x15, gone));
+        self.give(start(ticket, node));
+        let ticket = self.fresh(dice);
+        self.give(start(ticket, node));
+    }
+
     fn ask(&mut self, dice: &mut Dice) {
         let ticket = if dice.percent(80) { *dice.pick(&self.used).unwrap() } else { dice.below(65536) as u16 };
         self.give(with_ticket(0x13, ticket));
@@ -289,9 +328,10 @@ impl Busy {
         let ticket = self.wild_ticket(dice, fresh);
         let parent = if dice.percent(10) { ticket } else { self.wild_ticket(dice, fresh) };
         let node = self.wild_node(dice, parent);
-        self.give(match dice.below(8) {
+        self.give(match dice.below(9) {
             0 | 1 => start(ticket, node),
             2 | 3 | 4 | 5 => call(parent, ticket, node),
+            6 => with_ticket(0x15, parent),
             _ => with_ticket(0x12, parent),
         });
     }
@@ -321,8 +361,8 @@ impl Busy {
         found.unwrap_or(dice.byte())
     }
 
-    /// A stretch of commands of one mood: shares of start, call, return, ask, room and wild.
-    fn stretch(&mut self, dice: &mut Dice, count: usize, shares: [usize; 6]) {
+    /// A stretch of commands of one mood: shares of start, call, return, ask, room, wild and taking back.
+    fn stretch(&mut self, dice: &mut Dice, count: usize, shares: [usize; 7]) {
         let sites = self.net.plan.sites.clone();
         self.site = dice.pick(&sites).map_or(0, |s| s.0);
         for _ in 0..count {
@@ -338,7 +378,8 @@ impl Busy {
                 2 => drop(self.back(dice)),
                 3 => self.ask(dice),
                 4 => self.room(dice),
-                _ => self.wild(dice),
+                5 => self.wild(dice),
+                _ => self.take_back(dice),
             }
         }
     }
@@ -346,13 +387,14 @@ impl Busy {
     /// Stretches of different moods.
     fn moods(&mut self, dice: &mut Dice, stretches: usize) {
         for _ in 0..stretches {
-            let shares = match dice.below(6) {
-                0 => [8, 4, 1, 1, 1, 1],
-                1 => [1, 10, 1, 1, 1, 1],
-                2 => [1, 1, 10, 1, 1, 1],
-                3 => [6, 2, 5, 1, 1, 0],
-                4 => [3, 3, 3, 1, 1, 2],
-                _ => [1, 1, 1, 2, 2, 6],
+            let shares = match dice.below(7) {
+                0 => [8, 4, 1, 1, 1, 1, 1],
+                1 => [1, 10, 1, 1, 1, 1, 1],
+                2 => [1, 1, 10, 1, 1, 1, 1],
+                3 => [6, 2, 5, 1, 1, 0, 0],
+                4 => [3, 3, 3, 1, 1, 2, 2],
+                5 => [6, 3, 1, 1, 0, 0, 5],
+                _ => [1, 1, 1, 2, 2, 6, 1],
             };
             let count = dice.between(4, 30);
             self.stretch(dice, count, shares);
@@ -382,7 +424,7 @@ impl Busy {
         }
         if dice.percent(50) {
             self.empty(dice);
-            self.stretch(dice, 5, [1, 1, 1, 1, 1, 1]);
+            self.stretch(dice, 5, [1, 1, 1, 1, 1, 1, 1]);
         }
     }
 }
@@ -401,12 +443,12 @@ fn busy_input(dice: &mut Dice, kind: &str, stretches: usize) -> Vec<u8> {
     match kind {
         "deep" => (0..stretches).for_each(|_| {
             (0..dice.between(1, 6)).for_each(|_| busy.chain(dice));
-            busy.stretch(dice, 30, [1, 20, 2, 1, 1, 1]);
-            busy.stretch(dice, 20, [1, 2, 12, 1, 1, 1]);
+            busy.stretch(dice, 30, [1, 20, 2, 1, 1, 1, 2]);
+            busy.stretch(dice, 20, [1, 2, 12, 1, 1, 1, 2]);
         }),
         "levels" => (0..stretches).for_each(|_| {
-            busy.stretch(dice, 20, [12, 1, 2, 0, 1, 0]);
-            busy.stretch(dice, 15, [2, 1, 12, 1, 1, 1]);
+            busy.stretch(dice, 20, [12, 1, 2, 0, 1, 0, 2]);
+            busy.stretch(dice, 15, [2, 1, 12, 1, 1, 1, 2]);
         }),
         "full" => fill(dice, &mut busy),
         _ => busy.moods(dice, stretches),
@@ -419,12 +461,13 @@ fn busy_input(dice: &mut Dice, kind: &str, stretches: usize) -> Vec<u8> {
 /// 256 open calls, the 257th, and commands of every sort while the table is full or nearly so.
 fn fill(dice: &mut Dice, busy: &mut Busy) {
     while busy.net.calls.len() < 256 {
-        busy.stretch(dice, 8, [8, 8, 1, 0, 0, 0]);
+        busy.stretch(dice, 8, [8, 8, 1, 0, 0, 0, 0]);
     }
     for _ in 0..6 {
-        busy.stretch(dice, 12, [2, 2, 0, 1, 0, 8]);
-        busy.stretch(dice, 3, [0, 0, 1, 0, 0, 0]);
-        busy.stretch(dice, 6, [1, 1, 0, 0, 0, 0]);
+        busy.use_place_again(dice);
+        busy.stretch(dice, 12, [2, 2, 0, 1, 0, 8, 0]);
+        busy.stretch(dice, 3, [0, 0, 1, 0, 0, 0, 1]);
+        busy.stretch(dice, 6, [1, 1, 0, 0, 0, 0, 0]);
     }
 }
 
@@ -447,7 +490,7 @@ fn near_input(dice: &mut Dice) -> Vec<u8> {
     plan.edges.dedup();
     let mut bytes = plan_bytes(&plan);
     let mut busy = Busy::new(plan, 40);
-    busy.stretch(dice, 40, [4, 6, 2, 1, 1, 1]);
+    busy.stretch(dice, 40, [4, 6, 2, 1, 1, 1, 1]);
     bytes.extend(busy.bytes);
     bytes
 }
@@ -477,7 +520,7 @@ fn edges_input(dice: &mut Dice) -> Vec<u8> {
         return bytes;
     }
     let mut busy = Busy::new(plan, 40);
-    busy.stretch(dice, 20, [4, 6, 2, 1, 1, 1]);
+    busy.stretch(dice, 20, [4, 6, 2, 1, 1, 1, 1]);
     bytes.extend(busy.bytes);
     bytes
 }
@@ -492,7 +535,7 @@ fn damaged_input(dice: &mut Dice) -> Vec<u8> {
     }
     let mut bytes = records.concat();
     let mut busy = Busy::new(plan, 40);
-    busy.stretch(dice, 20, [4, 4, 2, 1, 1, 1]);
+    busy.stretch(dice, 20, [4, 4, 2, 1, 1, 1, 1]);
     if dice.percent(80) {
         bytes.extend(busy.bytes);
     }
@@ -538,7 +581,7 @@ fn limits_input(dice: &mut Dice) -> Vec<u8> {
     plan.edges.sort();
     let mut bytes = plan_bytes(&plan);
     let mut busy = Busy::new(sound_plan(dice, &size), 40);
-    busy.stretch(dice, 20, [4, 4, 2, 1, 1, 1]);
+    busy.stretch(dice, 20, [4, 4, 2, 1, 1, 1, 1]);
     bytes.extend(busy.bytes);
     bytes
 }
@@ -603,9 +646,9 @@ fn unknown_kind(dice: &mut Dice) -> u8 {
     }
 }
 
-/// 15 and 16 become commands by later requests.
+/// 16 becomes a command by a later request.
 fn later_kind(kind: u8) -> bool {
-    kind == 0x15 || kind == 0x16
+    kind == 0x16
 }
 
 /// A busy run in which one command's kind is unknown; what follows it must not matter.
@@ -646,7 +689,7 @@ fn random_input(dice: &mut Dice) -> Vec<u8> {
             let size = size_of(dice, "random");
             let mut bytes = plan_bytes(&sound_plan(dice, &size));
             for _ in 0..length {
-                bytes.push(0x10 + dice.below(5) as u8);
+                bytes.push(0x10 + dice.below(6) as u8);
                 bytes.extend((0..dice.between(2, 5)).map(|_| if dice.percent(50) { 0 } else { dice.byte() }));
             }
             bytes

@@ -22,6 +22,9 @@ pub struct Net {
     clock: u64,
     /// admissions less returns, a site
     balance: [i64; 256],
+    /// the parents of calls that were taken back, where a wrong rule goes on counting them, and places that one loses
+    ghosts: Vec<u16>,
+    lost: usize,
     wrong: Wrong,
 }
 
@@ -32,6 +35,7 @@ pub enum Answer {
     Refused(u8),
     /// the ticket admitted by a return, or 0
     Served(u16),
+    TakenBack,
     Asked(char),
     Room(i64),
 }
@@ -74,7 +78,7 @@ fn admissible(threads: u8, counts: &[i64], level: u8, wrong: Wrong) -> bool {
 
 impl Net {
     pub fn new(plan: Plan, wrong: Wrong) -> Net {
-        Net { plan, calls: Vec::new(), clock: 0, balance: [0; 256], wrong }
+        Net { plan, calls: Vec::new(), clock: 0, balance: [0; 256], ghosts: Vec::new(), lost: 0, wrong }
     }
 
     pub fn find(&self, ticket: u16) -> Option<&Call> {
@@ -103,7 +107,7 @@ impl Net {
     }
 
     pub fn has_child(&self, ticket: u16) -> bool {
-        self.calls.iter().any(|c| c.parent == ticket)
+        self.calls.iter().any(|c| c.parent == ticket) || self.ghosts.contains(&ticket)
     }
 
     /// "Start: a call without a parent."
@@ -138,7 +142,7 @@ impl Net {
             23 => self.find(parent).is_none(),
             24 => self.find(parent).is_some_and(|p| !p.active),
             25 => !self.find(parent).is_some_and(|p| self.plan.edge(p.node, node)),
-            26 => self.calls.len() >= most,
+            26 => self.calls.len() + self.lost >= most,
             _ => false,
         }
     }
@@ -182,6 +186,53 @@ impl Net {
                 _ => self.has_child(ticket),
             },
             _ => false,
+        }
+    }
+
+    /// 02, 4/14: "The call leaves, its parent has one child fewer, the others keep their order, and nobody becomes
+    /// admissible by it." It had no thread, so no thread comes back.
+    pub fn take_back(&mut self, ticket: u16) -> Answer {
+        let holds = |no| self.taking_back_fault(no, ticket);
+        if let Some(no) = first(List::TakeBack, self.wrong, holds) {
+            return Answer::Refused(no);
+        }
+        let place = self.calls.iter().position(|c| c.ticket == ticket).unwrap();
+        let gone = self.calls.remove(place);
+        self.wrongly_taken_back(&gone);
+        Answer::TakenBack
+    }
+
+    /// "Refusals: first 27 if not open, then 34 if active": 34 asks whether the call does not wait, which behind 27 is
+    /// the same, and so the order of the two is seen.
+    fn taking_back_fault(&self, no: u8, ticket: u16) -> bool {
+        let waits = self.find(ticket).is_some_and(|c| !c.active);
+        match no {
+            27 => self.find(ticket).is_none(),
+            34 => !waits && self.wrong != Wrong::BackActive,
+            _ => false,
+        }
+    }
+
+    /// What the wrong rules of a taking back do beyond it; nothing where the rules are right.
+    fn wrongly_taken_back(&mut self, gone: &Call) {
+        let site = self.place(gone).0;
+        let order: Vec<u16> = self.waiting(site).iter().map(|w| w.1).collect();
+        let mut moments: Vec<u64> = order.iter().map(|t| self.find(*t).unwrap().since).collect();
+        match self.wrong {
+            Wrong::BackServes => {
+                for call in self.calls.iter_mut().filter(|c| order.first() == Some(&c.ticket)) {
+                    call.active = true;
+                    self.balance[site as usize] += 1;
+                }
+            }
+            Wrong::BackTurns => moments.reverse(),
+            Wrong::BackLastMoves => moments.iter_mut().last().into_iter().for_each(|m| *m = gone.since.min(*m)),
+            Wrong::BackStillChild => self.ghosts.push(gone.parent),
+            Wrong::BackKeepsPlace => self.lost += 1,
+            _ => {}
+        }
+        for (ticket, since) in order.iter().zip(moments) {
+            self.calls.iter_mut().filter(|c| c.ticket == *ticket).for_each(|c| c.since = since);
         }
     }
 
@@ -263,6 +314,18 @@ impl Net {
     pub fn broken(&self) -> Option<String> {
         let sites = self.plan.sites.iter();
         sites.clone().find_map(|s| self.site_broken(s.0, s.1)).or_else(|| self.calls_broken()).or_else(|| self.stuck())
+    }
+
+    /// A taking back moves nobody: every other call is as it was, and each site's waiting order is the old one without it.
+    pub fn moved(&self, before: &Net, gone: Option<u16>) -> Option<String> {
+        let others = before.calls.iter().filter(|c| Some(c.ticket) != gone);
+        let same = |(c, d): (&Call, &Call)| (c.ticket, c.node, c.parent, c.active) == (d.ticket, d.node, d.parent, d.active);
+        if others.clone().count() != self.calls.len() || !others.zip(&self.calls).all(same) {
+            return Some("a taking back changed another call".to_string());
+        }
+        let kept = |site| before.waiting(site).into_iter().filter(|w| Some(w.1) != gone).collect::<Vec<_>>();
+        let turned = self.plan.sites.iter().find(|s| kept(s.0) != self.waiting(s.0))?;
+        Some(format!("site {}: a taking back changed the order of the others", turned.0))
     }
 
     /// At each site, for each k below T, at most T - k active calls of level k or higher; no waiting call admissible.

@@ -1,6 +1,6 @@
-//! The wrong rules. Each changes one rule of 01 and nothing else; `Wrong::None` is 01 itself.
+//! The wrong rules. Each changes one rule of 01 or 02 and nothing else; `Wrong::None` is the papers themselves.
 
-/// The decision lists of 01, each "in order".
+/// The decision lists of 01 and 02, each "in order".
 #[derive(Clone, Copy, PartialEq, Eq)]
 pub enum List {
     Record,
@@ -8,6 +8,7 @@ pub enum List {
     Start,
     Call,
     Return,
+    TakeBack,
 }
 
 #[derive(Clone, Copy, PartialEq, Eq)]
@@ -81,11 +82,23 @@ pub enum Wrong {
     RoomGloss,
     /// Two-byte numbers low byte first.
     LowByteFirst,
+    /// After a taking back the call that has waited longest at the site becomes active.
+    BackServes,
+    /// An active call is taken back: 34 is never given.
+    BackActive,
+    /// A taking back turns the order of the others round.
+    BackTurns,
+    /// The last of the waiting order takes the place of the call that was taken back.
+    BackLastMoves,
+    /// A call that was taken back is still a child of its parent.
+    BackStillChild,
+    /// The place of a call that was taken back is not used again.
+    BackKeepsPlace,
     /// `number` is tested just before `before`, and no longer in its place.
     Early(List, u8, u8),
 }
 
-pub const ALL: [(&str, Wrong); 53] = [
+pub const ALL: [(&str, Wrong); 60] = [
     ("bad-p", Wrong::BadP),
     ("first-waiter", Wrong::FirstWaiter),
     ("strict-levels", Wrong::StrictLevels),
@@ -120,6 +133,12 @@ pub const ALL: [(&str, Wrong); 53] = [
     ("cut-done", Wrong::CutDone),
     ("room-gloss", Wrong::RoomGloss),
     ("low-byte-first", Wrong::LowByteFirst),
+    ("back-serves", Wrong::BackServes),
+    ("back-active", Wrong::BackActive),
+    ("back-turns", Wrong::BackTurns),
+    ("back-last-moves", Wrong::BackLastMoves),
+    ("back-still-child", Wrong::BackStillChild),
+    ("back-keeps-place", Wrong::BackKeepsPlace),
     ("record-1-2", Wrong::Early(List::Record, 1, 2)),
     ("record-3-1", Wrong::Early(List::Record, 3, 1)),
     ("record-4-3", Wrong::Early(List::Record, 4, 3)),
@@ -139,13 +158,15 @@ pub const ALL: [(&str, Wrong); 53] = [
     ("call-25-22", Wrong::Early(List::Call, 25, 22)),
     ("call-26-25", Wrong::Early(List::Call, 26, 25)),
     ("call-26-20", Wrong::Early(List::Call, 26, 20)),
+    ("back-34-27", Wrong::Early(List::TakeBack, 34, 27)),
 ];
 
 pub fn named(name: &str) -> Option<Wrong> {
     ALL.iter().find(|(n, _)| *n == name).map(|(_, w)| *w)
 }
 
-/// 01's orders: "Checks on one record, in order", "7, then 8", "Order for a start", "a call", "a return".
+/// 01's orders: "Checks on one record, in order", "7, then 8", "Order for a start", "a call", "a return";
+/// and 02's, 4/14: "first 27 if not open, then 34 if active".
 fn right_order(list: List) -> Vec<u8> {
     match list {
         List::Record => vec![2, 1, 3, 4, 5, 6, 9],
@@ -153,6 +174,7 @@ fn right_order(list: List) -> Vec<u8> {
         List::Start => vec![20, 21, 22, 26],
         List::Call => vec![20, 21, 23, 24, 22, 25, 26],
         List::Return => vec![27, 28, 29],
+        List::TakeBack => vec![27, 34],
     }
 }
 

@@ -15,4 +15,11 @@ asked-cond false x y = refl
 
 pub asked-request : (kind : ℕ) (body : List ℕ) → asked (request-of kind body) ≡ request kind body
 unfolding request
-asked-request kind body = rw (asked-cond (eqb kind 0x10), asked-cond (eqb kind 0x11), asked-cond (eqb kind 0x12), asked-cond (eqb kind 0x13))
+asked-request kind body =
+    rw (
+      asked-cond (eqb kind 0x10),
+      asked-cond (eqb kind 0x11),
+      asked-cond (eqb kind 0x12),
+      asked-cond (eqb kind 0x13),
+      asked-cond (eqb kind 0x15),
+    )

@@ -6,7 +6,7 @@ use mathlib.Core.Option.{Option, none, some}
 use lib.ListN.{length, getD, drop}
 use lib.Dec.{eqb}
 use Rattle.model.specs.House.{Next, lacking, unknown, cut, whole, next}
-use Rattle.model.specs.Command.{start, call, return}
+use Rattle.model.specs.Command.{start, call, return, take-back}
 use Rattle.model.specs.Transcript as transcript
 use Rattle.model.specs.Transcript.{command, question, room-question, command-kinds, word}
 use Rattle.decode.specs.declared.Request.{Request}
@@ -23,7 +23,8 @@ request-of kind body =
     cond (eqb kind 0x10) (Request.Start (getD body 2 0) (word body 0))
     (cond (eqb kind 0x11) (Request.Call (getD body 4 0) (word body 0) (word body 2))
     (cond (eqb kind 0x12) (Request.Return (word body 0))
-    (cond (eqb kind 0x13) (Request.Ask (word body 0)) (Request.Room (getD body 0 0) (getD body 1 0)))))
+    (cond (eqb kind 0x13) (Request.Ask (word body 0))
+    (cond (eqb kind 0x15) (Request.TakeBack (word body 0)) (Request.Room (getD body 0 0) (getD body 1 0))))))
 
 abbrev pub from-next : Next → ℕ → NextRequest
 from-next lacking at = NextRequest.End
@@ -42,3 +43,4 @@ asked (Request.Call node parent ticket) = command (call parent ticket node)
 asked (Request.Return ticket) = command (return ticket)
 asked (Request.Ask ticket) = question ticket
 asked (Request.Room site level) = room-question site level
+asked (Request.TakeBack ticket) = command (take-back ticket)

@@ -15,6 +15,7 @@ pub enum Request {
     Ask(u16),
     // Site, level.
     Room(u8, u8),
+    TakeBack(u16),
 }
 
 // What stands where a command is due.
@@ -38,6 +39,7 @@ fn body_size(kind: u8) -> usize
         0x12 => 2,
         0x13 => 2,
         0x14 => 2,
+        0x15 => 2,
         _ => 0,
     }
 }
@@ -66,6 +68,7 @@ fn request_in(kind: u8, body: &[u8]) -> Request
         }
         0x12 => Request::Return(ticket),
         0x13 => Request::Ask(ticket),
+        0x15 => Request::TakeBack(ticket),
         _ => Request::Room(first, second),
     }
 }

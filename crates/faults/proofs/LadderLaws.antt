@@ -18,7 +18,7 @@ use Rattle.lists.proofs.PickLaws.{count-some, found-in}
 use Rattle.model.specs.Plan.{Record, has-edge}
 use Rattle.model.specs.PlanValue.{nowhere as nowhere-place, somewhere}
 use Rattle.model.specs.Net.{Call, Core, has-node, site-of, level-of, has, lookup, has-child}
-use Rattle.model.specs.Command.{start, call, return, fault}
+use Rattle.model.specs.Command.{start, call, return, take-back, fault}
 use Rattle.record.specs.Step.{listed-node}
 use Rattle.table.specs.Places.{holds, Searched}
 use Rattle.moves.specs.Held.{key-of}
@@ -151,6 +151,20 @@ module _ (rs : List Record) (cs : List Call) where
     pub return-0 : c .active ≡ true → has-child cs ticket ≡ false → 0 ≡ fault net (return ticket)
     unfolding fault
     return-0 runs e = rw (stands, runs, e)
+
+  -- a taking back
+  pub back-27 : (ticket : ℕ) → lookup cs ticket ≡ none → 27 ≡ fault net (take-back ticket)
+  unfolding fault
+  back-27 ticket e = rw e
+
+  module _ (ticket : ℕ) (c : Call) (stands : lookup cs ticket ≡ some c) where
+    pub back-34 : c .active ≡ true → 34 ≡ fault net (take-back ticket)
+    unfolding fault
+    back-34 runs = rw (stands, runs)
+
+    pub back-0 : c .active ≡ false → 0 ≡ fault net (take-back ticket)
+    unfolding fault
+    back-0 waits = rw (stands, waits)
 
 -- the parents tell who has a child
 module _ {rs : List Record} {cs : List Call} {tickets parents keys : List ℕ} {used : ℕ} (seen : ReturnSeen rs cs tickets parents keys used) (ticket : ℕ)

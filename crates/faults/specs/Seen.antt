@@ -11,7 +11,7 @@ use Rattle.lists.specs.Pick.{first-place}
 use Rattle.model.specs.Plan.{Record, has-edge}
 use Rattle.model.specs.Net.{Call, has-node, has}
 use Rattle.model.specs.Steady.{Firm}
-use Rattle.model.specs.Command.{start, call, return, fault}
+use Rattle.model.specs.Command.{start, call, return, take-back, fault}
 use Rattle.record.specs.Step.{listed-node}
 use Rattle.links.specs.Rows.{RowsTell}
 use Rattle.moves.specs.Held.{Tells, ticket-number, parent-number, node-number, key-of}
@@ -59,6 +59,16 @@ pub record ReturnSeen (rs : List Record) (cs : List Call) (tickets parents keys 
   pub calls-told : Ticketed rs cs tickets used
   pub of-parents : Tells parent-number cs parents
   pub of-keys : Tells (key-of rs) cs keys
+
+-- what a taking back looks at
+pub record BackSeen (rs : List Record) (cs : List Call) (tickets keys : List ℕ) (used : ℕ) : Type 0 where
+  pub calls-told : Ticketed rs cs tickets used
+  pub of-keys : Tells (key-of rs) cs keys
+
+abbrev pub BackFault : List ℕ → List ℕ → ℕ → ℕ → ℕ → ℕ → Type 0
+BackFault tickets keys used ticket number at =
+    (rs : List Record) (cs : List Call) → BackSeen rs cs tickets keys used
+    → (number ≡ fault (record { plan = rs; calls = cs }) (take-back ticket)) × (number ≡ 0 → at ≡ first-place (has ticket) cs)
 
 -- the number, and where there is none the place of the call
 abbrev pub ReturnFault : List ℕ → List ℕ → List ℕ → ℕ → ℕ → ℕ → ℕ → Type 0

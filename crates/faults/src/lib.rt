@@ -3,11 +3,11 @@
 ghost use mathlib.Core.List.{List};
 ghost use Rattle.model.specs.Plan.{Record};
 ghost use Rattle.model.specs.Net.{Call};
-ghost use Rattle.faults.specs.Seen.{StartSeen, StartFault, CallSeen, CallFault, ReturnSeen, ReturnFault};
+ghost use Rattle.faults.specs.Seen.{StartSeen, StartFault, CallSeen, CallFault, ReturnSeen, ReturnFault, BackSeen, BackFault};
 use ids::Node;
 use ids::Ticket;
 
-// The number of a return's first test that fails, or 0, and then the place of the call.
+// The number of the first test of a return or a taking back that fails, or 0, and then the place of the call.
 pub struct Ending {
     pub fault: u8,
     pub at: usize,
@@ -105,6 +105,24 @@ pub fn return_fault<'a>(
     }
     if table::has_child(parents, used, ticket) {
         return Ending { fault: 29, at };
+    }
+    Ending { fault: 0, at }
+}
+
+// A taking back: 27, 34. No ticket is not open.
+pub fn back_fault<'a>(tickets: &'a [u16], keys: &'a [u16], used: usize, ticket: u16) -> Ending
+    requires { ⌜ ((rs : List Record) × (cs : List Call) × BackSeen rs cs (now tickets) (now keys) used) ⌝ }
+    ensures { λ r. ⌜ BackFault (now (tickets .entry)) (now (keys .entry)) used ticket (r .fault) (r .at) ⌝ }
+{
+    if ticket == Ticket::NONE {
+        return Ending { fault: 27, at: 0 };
+    }
+    let at = table::find(tickets, used, ticket);
+    if at == Ticket::OPEN {
+        return Ending { fault: 27, at };
+    }
+    if keys[at] == 0 {
+        return Ending { fault: 34, at };
     }
     Ending { fault: 0, at }
 }

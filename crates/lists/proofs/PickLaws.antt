@@ -238,6 +238,30 @@ module _ {A : Type 0} where
       go false s true t apart ih = rw (t, ih)
       go false s false t apart ih = rw t ih
 
+  -- and where at most one passes, one out of the list is one out of the picked ones
+  lone-out : (f g : A → Bool) (xs : List A) → count f xs ≡ 0 → without f (picked g xs) ≡ picked g xs
+  unfolding count picked without
+  lone-out f g [] e = refl
+  lone-out f g (x ∷ xs) e = go (f x) refl (g x) (lone-out f g xs (omega arith))
+    where
+      go : (b : Bool) → f x ≡ b → (c : Bool) → without f (picked g xs) ≡ picked g xs
+          → without f (cond c (x ∷ picked g xs) (picked g xs)) ≡ cond c (x ∷ picked g xs) (picked g xs)
+      go true s c ih = absurd (omega (arith, ap one s, e))
+      go false s true ih = rw (s, ih)
+      go false s false ih = ih
+
+  pub picked-out : (f g : A → Bool) (xs : List A) → count f xs ≤ 1 → picked g (without f xs) ≡ without f (picked g xs)
+  unfolding count picked without
+  picked-out f g [] h = refl
+  picked-out f g (x ∷ xs) h = go (f x) refl (g x) refl (picked-out f g xs (omega arith))
+    where
+      go : (b : Bool) → f x ≡ b → (c : Bool) → g x ≡ c → picked g (without f xs) ≡ without f (picked g xs)
+          → picked g (cond b xs (x ∷ without f xs)) ≡ without f (cond c (x ∷ picked g xs) (picked g xs))
+      go true s true t ih = sym (rw s)
+      go true s false t ih = sym (lone-out f g xs (omega (arith, ap one s, h)))
+      go false s true t ih = rw (t, s, ih)
+      go false s false t ih = rw t ih
+
   -- One entry changed
 
   pub changed-none : (h : A → A) (f : A → Bool) (xs : List A) → found f xs ≡ none → changed h f xs ≡ xs

@@ -12,7 +12,7 @@ use Rattle.model.specs.Plan.{threads}
 use Rattle.model.specs.Reading.{PlanOk}
 use Rattle.model.specs.PlanValue.{reading-plan}
 use Rattle.model.specs.Net.{Call, Core, empty-net, site-of, lookup, node-of, ticket-of, at-or-above, counts, admissible, opened, closed, to-wake}
-use Rattle.model.specs.Command.{Command, start, call, return, ended, fault, Outcome, opening, serving, done, step, run}
+use Rattle.model.specs.Command.{Command, start, call, return, take-back, ended, fault, Outcome, opening, serving, withdrawing, done, step, run}
 use Rattle.model.specs.NetRules.{Keeps}
 use Rattle.model.specs.Demands.{Demand-1, OpensCall, by-start, by-call, Demand-2, Safe, Demand-3, Drains}
 use Rattle.model.proofs.SiteLaws.{lawful-at}
@@ -55,7 +55,7 @@ return-step net ticket gone found e =
     ∙ ap (λ (o : Option Call). serving (net .plan) (closed (net .calls) ticket) (site-of (net .plan) (node-of o))) found
 
 pub demand-2 : Demand-2
-unfolding opening opened serving admissible
+unfolding opening opened serving withdrawing admissible
 demand-2 =
     record {
       plans = accepted-exactly;
@@ -67,6 +67,8 @@ demand-2 =
           ap (λ (r : Outcome). r .answer) (return-step net ticket gone found e)
           ∙ ap (λ (w : Option Call). ended (ticket-of w)) (to-wake-oldest (net .plan) (closed (net .calls) ticket) (site-of (net .plan) (gone .node)));
       return-state = λ net ticket gone found e. ap (λ (r : Outcome). r .core) (return-step net ticket gone found e);
+      back-answer = λ net ticket e. ap (λ (r : Outcome). r .answer) (accepted-step net (take-back ticket) e);
+      back-state = λ net ticket e. ap (λ (r : Outcome). r .core) (accepted-step net (take-back ticket) e);
     }
 
 -- Demand 3

@@ -13,15 +13,15 @@ use borrow.Author.Tests.{eqb-true, eq-eqb, ne-eqb}
 use Rattle.ids.specs.Limits.{no-ticket, most-open}
 use Rattle.lists.specs.Count.{one}
 use Rattle.lists.specs.Pick.{count, changed}
-use Rattle.lists.proofs.CountLaws.{never-both, and-left, and-right}
-use Rattle.lists.proofs.PickLaws.{count-more, count-none, count-without, count-changed, found-in, found-none, found-more, found-without}
-use Rattle.lists.proofs.PickLaws.{found-changed, in-without, in-changed, changed-none, length-without, length-changed, any-none}
+use Rattle.lists.proofs.CountLaws.{never-both, not-true-false, and-left, and-right}
+use Rattle.lists.proofs.PickLaws.{count-more, count-none, count-some, count-without, count-changed, found-in, found-none, found-more, found-without}
+use Rattle.lists.proofs.PickLaws.{found-changed, in-without, in-changed, changed-none, length-without, length-changed, any-none, any-some}
 use Rattle.model.specs.Site.{lawful, raised}
 use Rattle.model.specs.Plan.{Record, threads, has-edge, six, passes}
 use Rattle.model.specs.Net.{Call, Core, has-node, site-of, level-of, has, lookup, is-child, has-child, is-on, active-on, waits-on, counts}
 use Rattle.model.specs.Net.{admissible, newcomer, opened, closed, may-wake, to-wake, activated, woken}
 use Rattle.model.specs.NetRules.{Keeps, parent-stands, parent-kept}
-use Rattle.model.specs.Steady.{Lawful, Firm, Newcomer, Ending}
+use Rattle.model.specs.Steady.{Lawful, Firm, Newcomer, Leaver, Ending, Withdrawn}
 use Rattle.model.proofs.SiteLaws.{A-one, lawful-at, lawful-all}
 use Rattle.model.proofs.RuleLaws.{S}
 use Rattle.model.proofs.PlaceLaws.{level-small, level-below-threads}
@@ -164,7 +164,35 @@ module _ (rs : List Record) (cs : List Call) (f : Firm rs cs) (parent ticket nod
 
 -- Closing
 
-module _ (rs : List Record) (cs : List Call) (f : Firm rs cs) (ticket : ℕ) (gone : Call) (end : Ending cs ticket gone) where
+-- who returns may leave; and so may who waits, since nobody is beneath a call that waits
+pub ending-leaves : {cs : List Call} {ticket : ℕ} {gone : Call} → Ending cs ticket gone → Leaver cs ticket gone
+ending-leaves end = record { stands = end .stands; childless = end .childless }
+
+module _ {rs : List Record} {cs : List Call} {ticket : ℕ} {gone : Call} (f : Firm rs cs) (end : Withdrawn cs ticket gone) where
+  -- the parent of a call is none, or it is active
+  not-beneath : (c : Call) (b : Bool) → eqb ticket no-ticket ≡ b → (b || parent-stands rs (some gone) (c .node)) ≡ true → ⊥
+  unfolding has
+  not-beneath c true q h =
+      let w = found-in (has ticket) cs gone (end .stands) in
+      let nobody = subst (λ (t : ℕ). count (has t) cs ≡ 0) (sym (eqb-true ticket no-ticket q)) (f .none-0) in
+      omega (arith, nobody, count-some (has ticket) cs gone (w .0) (w .1))
+  not-beneath c false q h = never-both (and-left (gone .active) (has-edge rs (gone .node) (c .node)) h) (end .waits)
+
+  childless : has-child cs ticket ≡ false
+  unfolding has-child is-child parent-kept
+  childless =
+      not-true-false (has-child cs ticket)
+      (λ e.
+      let w = any-some (is-child ticket) cs e in
+      let c = w .0 in
+      let kept = subst (λ (t : ℕ). (eqb t no-ticket || parent-stands rs (lookup cs t) (c .node)) ≡ true) (eqb-true (c .parent) ticket (w .2)) (f .kept c (w .1)) in
+      let found = subst (λ (o : Option Call). (eqb ticket no-ticket || parent-stands rs o (c .node)) ≡ true) (end .stands) kept in
+      not-beneath c (eqb ticket no-ticket) refl found)
+
+  pub withdrawn-leaves : Leaver cs ticket gone
+  withdrawn-leaves = record { stands = end .stands; childless = childless }
+
+module _ (rs : List Record) (cs : List Call) (f : Firm rs cs) (ticket : ℕ) (gone : Call) (end : Leaver cs ticket gone) where
   pub in-closed : (c : Call) → List·Memᴰ c (closed cs ticket) → List·Memᴰ c cs
   unfolding closed
   in-closed c m = in-without (has ticket) cs c m

@@ -10,7 +10,7 @@ use Rattle.lists.proofs.PickLaws.{all-at}
 use Rattle.model.specs.Plan.{first-fault}
 use Rattle.model.specs.Faults.{Given}
 use Rattle.model.specs.Net.{Core}
-use Rattle.model.specs.Command.{Command, start, call, return, tests, order, fault}
+use Rattle.model.specs.Command.{Command, start, call, return, take-back, tests, order, fault}
 use Rattle.model.proofs.TestLaws.{lone, first-fault-is}
 
 -- "Order for a start: 20, 21, 22, 26. For a call: 20, 21, 23, 24, 22, 25, 26. For a return: 27, 28, 29"
@@ -18,12 +18,14 @@ pub in-order : (net : Core) (c : Command) → map (λ (t : Bool × ℕ). t .1) (
 in-order net (start ticket node) = refl
 in-order net (call parent ticket node) = refl
 in-order net (return ticket) = refl
+in-order net (take-back ticket) = refl
 
 each-alone : (net : Core) (c : Command) → all (λ n. lone n (tests net c)) (order c) ≡ true
 unfolding all
 each-alone net (start ticket node) = refl
 each-alone net (call parent ticket node) = refl
 each-alone net (return ticket) = refl
+each-alone net (take-back ticket) = refl
 
 -- a number is "given exactly when" its test fails and each test before it passes; 0, no refusal, when all pass
 pub given-exactly : (net : Core) (c : Command) (n : ℕ) → List·Memᴰ n (order c) → (fault net c ≡ n) ↔ Given n (tests net c)
@@ -38,6 +40,7 @@ accepted-when net c = first-fault-is 0 (tests net c) (no-zero c)
     no-zero (start ticket node) = refl
     no-zero (call parent ticket node) = refl
     no-zero (return ticket) = refl
+    no-zero (take-back ticket) = refl
 
 -- "gives the number from the table": no other number is given
 first-among : (ts : List (Bool × ℕ)) → (first-fault ts ≡ 0 → ⊥) → List·Memᴰ (first-fault ts) (map (λ (t : Bool × ℕ). t .1) ts)

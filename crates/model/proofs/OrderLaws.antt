@@ -14,7 +14,7 @@ use Rattle.lists.specs.Pick.{count, found, without, changed}
 use Rattle.lists.proofs.CountLaws.{never-both, not-true-false, and-left, and-right}
 use Rattle.lists.proofs.PickLaws.{count-some, count-more, count-fewer, count-without, count-changed, count-picked, only-one, any-counted}
 use Rattle.lists.proofs.PickLaws.{found-in, found-none, found-some, found-more, found-last, found-without, found-changed, found-picked, in-without}
-use Rattle.lists.proofs.PickLaws.{changed-none, changed-there, none-changed, picked-more, picked-without, picked-changed, picked-apart, picked-all, all-picked}
+use Rattle.lists.proofs.PickLaws.{changed-none, changed-there, none-changed, picked-more, picked-without, picked-out, picked-changed, picked-apart, picked-all, all-picked}
 use Rattle.model.specs.Plan.{Record}
 use Rattle.model.specs.Net.{Call, has, lookup, is-child, has-child, is-on, waits-on, waiting-order, admissible, newcomer, opened, closed, may-wake}
 use Rattle.model.specs.Net.{to-wake, activated, woken}
@@ -57,6 +57,11 @@ module _ (rs : List Record) (cs : List Call) (s : ℕ) where
   order-closed ticket runs =
       picked-without (has ticket) (waits-on rs s) cs
       (λ c m e. not-true-false (has ticket c) (λ h. never-both (runs c m h) (waits-site rs s c e .1)))
+
+  -- a call that is taken back leaves the order of its site, and "the others keep their order"
+  pub order-withdrawn : (ticket : ℕ) → count (has ticket) cs ≤ 1 → waiting-order rs (closed cs ticket) s ≡ without (has ticket) (waiting-order rs cs s)
+  unfolding waiting-order closed
+  order-withdrawn ticket once = picked-out (has ticket) (waits-on rs s) cs once
 
   awake : (r : ℕ) (c : Call) → waits-on rs r (activated c) ≡ false
   unfolding waits-on

@@ -19,8 +19,8 @@ use Rattle.model.specs.Records.{Listed}
 use Rattle.model.specs.Faults.{Given}
 use Rattle.model.specs.Net.{Call, Core, has-node, has, lookup, is-open, is-active, node-of, is-child, has-child}
 use Rattle.model.specs.NetRules.{Keeps}
-use Rattle.model.specs.Command.{Command, start, call, return, tests, order, fault}
-use Rattle.model.specs.Refusals.{Open, Waits, Row, rows, First}
+use Rattle.model.specs.Command.{Command, start, call, return, take-back, tests, order, fault}
+use Rattle.model.specs.Refusals.{Open, Runs, Waits, Row, rows, First}
 use Rattle.model.proofs.GraphLaws.{yes, is-true}
 use Rattle.model.proofs.RecordLaws.{passes-ok, listed-place}
 use Rattle.model.proofs.PlanLaws.{calls-listed, listed-calls}
@@ -102,6 +102,17 @@ module _ (net : Core) (k : Keeps net) where
       into : Waits net ticket → is-active (lookup cs ticket) ≡ false
       into w = ap is-active (ap (lookup cs) (sym (w .2)) ∙ found-by-ticket net k (w .0) (w .1)) ∙ w .3
 
+  runs : (ticket : ℕ) → is-open (lookup cs ticket) ≡ true → (not (is-active (lookup cs ticket)) ≡ false) ↔ Runs net ticket
+  unfolding has
+  runs ticket e = (from (lookup cs ticket) refl, into)
+    where
+      from : (o : Option Call) → lookup cs ticket ≡ o → not (is-active o) ≡ false → Runs net ticket
+      from none q a = absurd (never-both {b = true} refl a)
+      from (some c) q a = let w = found-in (has ticket) cs c q in (c, w .0, eqb-true (c .ticket) ticket (w .1), not-false-is (c .active) a)
+
+      into : Runs net ticket → not (is-active (lookup cs ticket)) ≡ false
+      into w = ap not (ap is-active (ap (lookup cs) (sym (w .2)) ∙ found-by-ticket net k (w .0) (w .1)) ∙ w .3)
+
   unlisted : (n : ℕ) → (has-node rs n ≡ false) ↔ (Listed rs n → ⊥)
   unfolding has-node
   unlisted n = (
@@ -172,6 +183,7 @@ module _ (net : Core) (k : Keeps net) where
     ),
   )
   rows-decided (return ticket) = (refl, not-open ticket, λ there. (refl, waits ticket there, λ a. (refl, childless ticket, λ b. tt)))
+  rows-decided (take-back ticket) = (refl, not-open ticket, λ there. (refl, runs ticket there, λ a. tt))
 
   -- "given exactly when": a number of the order is given exactly where its row is the first that holds
   pub refused-exactly : (c : Command) (n : ℕ) → List·Memᴰ n (order c) → (fault net c ≡ n) ↔ First n (rows net c)

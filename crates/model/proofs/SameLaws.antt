@@ -20,14 +20,14 @@ use Rattle.model.specs.Plan.{Record, threads, six, passes}
 use Rattle.model.specs.Site.{may-admit, room}
 use Rattle.model.specs.Net.{Call, Core, site-of, level-of, has, lookup, ticket-of, has-child, counts, waiting-order, admissible, newcomer}
 use Rattle.model.specs.Net.{opened, closed, may-wake, to-wake, activated, woken}
-use Rattle.model.specs.Command.{Command, start, call, return, refused, active, waiting, ended, fault, opening, serving, done, step, run, ask}
+use Rattle.model.specs.Command.{Command, start, call, return, take-back, refused, active, waiting, ended, fault, opening, serving, withdrawing, done, step, run, ask}
 use Rattle.model.specs.Command.{standing, has-room, room-refused, room-at}
 use Rattle.model.specs.NetRules.{Keeps}
 use Rattle.model.specs.Steady.{Ending}
 use Rattle.model.specs.Same.{Same}
 use Rattle.model.proofs.CountsLaws.{of-level, counts-alike}
-use Rattle.model.proofs.OrderLaws.{to-wake-oldest, order-opened, order-closed, order-woken, order-elsewhere, has-child-counted}
-use Rattle.model.proofs.StepLaws.{accepted-step, refused-step, return-fits, step-keeps}
+use Rattle.model.proofs.OrderLaws.{to-wake-oldest, order-opened, order-closed, order-withdrawn, order-woken, order-elsewhere, has-child-counted}
+use Rattle.model.proofs.StepLaws.{accepted-step, refused-step, return-fits, back-fits, step-keeps}
 use Rattle.model.proofs.FreeLaws.{found-by-ticket}
 
 -- Calls as values
@@ -181,6 +181,7 @@ module _ (rs : List Record) (cs ds : List Call) (k : Keeps (net-of rs cs)) (l : 
   fault-same (start ticket node) = rw (lookup-same ticket, length-same rs cs ds alike orders)
   fault-same (call parent ticket node) = rw (lookup-same ticket, lookup-same parent, length-same rs cs ds alike orders)
   fault-same (return ticket) = rw (lookup-same ticket, child-same rs cs ds alike orders ticket)
+  fault-same (take-back ticket) = rw (lookup-same ticket)
 
   -- the call of a ticket that runs is the only one of that ticket, so that whoever has the ticket runs
   all-run : (es : List Call) → Keeps (net-of rs es) → (ticket : ℕ) (gone : Call) → Ending es ticket gone
@@ -219,6 +220,23 @@ module _ (rs : List Record) (cs ds : List Call) (k : Keeps (net-of rs cs)) (l : 
         },
       )
 
+  withdrawn-same : (ticket : ℕ) → fault (net-of rs cs) (take-back ticket) ≡ 0
+      → (done (net-of rs cs) (take-back ticket) .answer ≡ done (net-of rs ds) (take-back ticket) .answer)
+      × Same (done (net-of rs cs) (take-back ticket) .core) (done (net-of rs ds) (take-back ticket) .core)
+  unfolding withdrawing
+  withdrawn-same ticket e =
+      let w = back-fits (net-of rs cs) ticket e in (
+        refl,
+        record {
+          plans = refl;
+          calls = closed-alike ticket (w .0) (w .1 .stands);
+          orders = λ s.
+              order-withdrawn rs cs s ticket (k .tickets-differ ticket)
+              ∙ ap (without (has ticket)) (orders s)
+              ∙ sym (order-withdrawn rs ds s ticket (l .tickets-differ ticket));
+        },
+      )
+
   opened-same : (parent ticket node : ℕ)
       → (opening rs cs parent ticket node .answer ≡ opening rs ds parent ticket node .answer)
       × Same (opening rs cs parent ticket node .core) (opening rs ds parent ticket node .core)
@@ -237,6 +255,7 @@ module _ (rs : List Record) (cs ds : List Call) (k : Keeps (net-of rs cs)) (l : 
   done-same (start ticket node) e = opened-same no-ticket ticket node
   done-same (call parent ticket node) e = opened-same parent ticket node
   done-same (return ticket) e = returned-same ticket e
+  done-same (take-back ticket) e = withdrawn-same ticket e
 
   calls-step-same : (c : Command)
       → (step (net-of rs cs) c .answer ≡ step (net-of rs ds) c .answer) × Same (step (net-of rs cs) c .core) (step (net-of rs ds) c .core)

@@ -14,19 +14,19 @@ use borrow.Author.Tests.{eqb-true, eqb-false, eq-eqb, ne-eqb}
 use Rattle.lists.specs.Pick.{changed}
 use Rattle.lists.proofs.CountLaws.{true-or-false, never-both, lt-or-ge}
 use Rattle.lists.proofs.PickLaws.{one-most, found-in, found-none, changed-none}
-use Rattle.model.specs.Site.{A, raised}
+use Rattle.model.specs.Site.{A, raised, may-admit}
 use Rattle.model.specs.Rule.{Blocked}
 use Rattle.model.specs.Plan.{Record, threads}
 use Rattle.model.specs.Net.{Call, has-node, site-of, level-of, has, is-on, active-on, waits-on, counts, admissible, newcomer, opened, closed}
 use Rattle.model.specs.Net.{may-wake, to-wake, activated, woken}
 use Rattle.model.specs.NetRules.{could-go}
-use Rattle.model.specs.Steady.{Firm, Newcomer, Ending}
+use Rattle.model.specs.Steady.{Firm, Newcomer, Ending, Withdrawn}
 use Rattle.model.proofs.SiteLaws.{A-one, A-kept}
 use Rattle.model.proofs.RuleLaws.{D, M, X}
 use Rattle.model.proofs.PlaceLaws.{level-small}
 use Rattle.model.proofs.CountsLaws.{more, counts-length, counts-opened, counts-closed, counts-woken}
 use Rattle.model.proofs.AdmitLaws.{rule, rule-sound, Held-back, free, blocked, held-back}
-use Rattle.model.proofs.FirmLaws.{opened-firm, closed-firm, woken-firm, in-opened, in-closed, to-wake-fits, in-woken}
+use Rattle.model.proofs.FirmLaws.{opened-firm, ending-leaves, withdrawn-leaves, closed-firm, woken-firm, in-opened, in-closed, to-wake-fits, in-woken}
 
 abbrev pub Settled : List Record → List Call → Type 0
 Settled rs cs = (c : Call) → List·Memᴰ c cs → could-go rs cs c ≡ false
@@ -95,13 +95,13 @@ module _ (rs : List Record) (cs : List Call) (f : Firm rs cs) (settled : Settled
   here = site-of rs (gone .node)
 
   left-firm : Firm rs left
-  left-firm = closed-firm rs cs f ticket gone end
+  left-firm = closed-firm rs cs f ticket gone (ending-leaves end)
 
   after-firm : Firm rs (woken rs left here)
   after-firm = woken-firm rs left left-firm here
 
   held-before : (c : Call) → List·Memᴰ c left → c .active ≡ false → admissible rs cs (c .node) ≡ false
-  held-before c m w = waits-held rs cs c (settled c (in-closed rs cs f ticket gone end c m)) w
+  held-before c m w = waits-held rs cs c (settled c (in-closed rs cs f ticket gone (ending-leaves end) c m)) w
 
   -- Elsewhere nothing has changed
 
@@ -256,3 +256,29 @@ module _ (rs : List Record) (cs : List Call) (f : Firm rs cs) (settled : Settled
           let same = elsewhere s (eqb-false here s e) in
           still-held rs cs (woken rs left here) f after-firm (d .node) (left-firm .known d i)
           (λ k. omega (arith, ap (λ (a : List ℕ). A a k) same)) (held-before d i w)
+
+-- A taking back
+
+module _ (rs : List Record) (cs : List Call) (f : Firm rs cs) (ticket : ℕ) (gone : Call) (end : Withdrawn cs ticket gone) where
+  -- a call that waits is not counted
+  pub counts-withdrawn : (s : ℕ) → counts rs (closed cs ticket) s ≡ counts rs cs s
+  unfolding closed active-on
+  counts-withdrawn s =
+      sym
+      (counts-closed rs s (f .pass) (has ticket) cs gone (end .stands)
+      ∙ ap (λ (b : Bool). more (is-on rs s gone && b) (counts rs (closed cs ticket) s) (level-of rs (gone .node))) (end .waits)
+      ∙ go (is-on rs s gone))
+    where
+      go : (b : Bool) → more (b && false) (counts rs (closed cs ticket) s) (level-of rs (gone .node)) ≡ counts rs (closed cs ticket) s
+      go true = refl
+      go false = refl
+
+  -- "nobody becomes admissible by it"
+  pub nobody-more : (n : ℕ) → admissible rs (closed cs ticket) n ≡ admissible rs cs n
+  unfolding admissible
+  nobody-more n = ap (λ (a : List ℕ). may-admit (threads rs (site-of rs n)) a (level-of rs n)) (counts-withdrawn (site-of rs n))
+
+  pub withdrawn-settled : Settled rs cs → Settled rs (closed cs ticket)
+  unfolding could-go
+  withdrawn-settled settled c m =
+      ap (λ (b : Bool). not (c .active) && b) (nobody-more (c .node)) ∙ settled c (in-closed rs cs f ticket gone (withdrawn-leaves f end) c m)

@@ -15,15 +15,15 @@ use Rattle.lists.specs.Pick.{count, found}
 use Rattle.lists.proofs.CountLaws.{true-or-false, never-both, and-both}
 use Rattle.model.specs.Plan.{Record, threads, has-edge, six, passes}
 use Rattle.model.specs.Net.{Call, Core, empty-net, site-of, lookup, is-open, is-active, node-of, has-child, counts, opened, closed, woken}
-use Rattle.model.specs.Command.{Command, start, call, return, refused, active, start-tests, call-tests, return-tests, fault, Outcome, opening}
-use Rattle.model.specs.Command.{serving, done, decided, step, run}
+use Rattle.model.specs.Command.{Command, start, call, return, take-back, refused, active, start-tests, call-tests, return-tests, back-tests, fault, Outcome}
+use Rattle.model.specs.Command.{opening, serving, withdrawing, done, decided, step, run}
 use Rattle.model.specs.NetRules.{Keeps, parent-stands}
-use Rattle.model.specs.Steady.{Firm, Newcomer, Ending}
+use Rattle.model.specs.Steady.{Firm, Newcomer, Ending, Withdrawn}
 use Rattle.model.proofs.SiteLaws.{lawful-all}
 use Rattle.model.proofs.TestLaws.{first-fault-is}
 use Rattle.model.proofs.CountsLaws.{A-counts}
-use Rattle.model.proofs.FirmLaws.{keeps-firm, opened-firm, closed-firm, woken-firm}
-use Rattle.model.proofs.SettledLaws.{Settled, opened-settled, returned-settled}
+use Rattle.model.proofs.FirmLaws.{keeps-firm, opened-firm, ending-leaves, withdrawn-leaves, closed-firm, woken-firm}
+use Rattle.model.proofs.SettledLaws.{Settled, opened-settled, returned-settled, withdrawn-settled}
 
 -- One command, accepted or refused
 
@@ -104,6 +104,15 @@ module _ (net : Core) where
         },
       )
 
+  pub back-fits : (ticket : ℕ) → fault net (take-back ticket) ≡ 0 → (c : Call) × Withdrawn cs ticket c
+  unfolding fault
+  back-fits ticket e =
+      let w = first-fault-is 0 (back-tests cs ticket) refl .0 e in
+      let found = some-call (lookup cs ticket) (w .0) in (
+        found .0,
+        record { stands = found .1; waits = subst (λ (o : Option Call). is-active o ≡ false) (found .1) (not-true (is-active (lookup cs ticket)) (w .1 .0)) },
+      )
+
 -- The rules are kept
 
 firm-keeps : (net : Core) → Firm (net .plan) (net .calls) → Settled (net .plan) (net .calls) → Keeps net
@@ -135,13 +144,22 @@ returning-keeps net k ticket c end =
     let f = keeps-firm net k in
     rw (end .stands)
     (firm-keeps (record { plan = net .plan; calls = woken (net .plan) (closed (net .calls) ticket) (site-of (net .plan) (c .node)) })
-    (woken-firm (net .plan) (closed (net .calls) ticket) (closed-firm (net .plan) (net .calls) f ticket c end) (site-of (net .plan) (c .node)))
+    (woken-firm (net .plan) (closed (net .calls) ticket) (closed-firm (net .plan) (net .calls) f ticket c (ending-leaves end)) (site-of (net .plan) (c .node)))
     (returned-settled (net .plan) (net .calls) f (k .settled) ticket c end))
+
+withdrawing-keeps : (net : Core) → Keeps net → (ticket : ℕ) (c : Call) → Withdrawn (net .calls) ticket c → Keeps (done net (take-back ticket) .core)
+unfolding withdrawing
+withdrawing-keeps net k ticket c end =
+    let f = keeps-firm net k in
+    firm-keeps (record { plan = net .plan; calls = closed (net .calls) ticket })
+    (closed-firm (net .plan) (net .calls) f ticket c (withdrawn-leaves f end))
+    (withdrawn-settled (net .plan) (net .calls) f ticket c end (k .settled))
 
 accepted-keeps : (net : Core) → Keeps net → (c : Command) → fault net c ≡ 0 → Keeps (done net c .core)
 accepted-keeps net k (start ticket node) e = opening-keeps net k no-ticket ticket node (start-fits net ticket node e)
 accepted-keeps net k (call parent ticket node) e = opening-keeps net k parent ticket node (call-fits net parent ticket node e)
 accepted-keeps net k (return ticket) e = let w = return-fits net ticket e in returning-keeps net k ticket (w .0) (w .1)
+accepted-keeps net k (take-back ticket) e = let w = back-fits net ticket e in withdrawing-keeps net k ticket (w .0) (w .1)
 
 -- "every command keep[s] them"
 pub step-keeps : (net : Core) → Keeps net → (c : Command) → Keeps (step net c .core)
@@ -173,7 +191,7 @@ empty-keeps rs pass =
 
 -- a command leaves the plan alone
 pub step-plan : (net : Core) (c : Command) → step net c .core .plan ≡ net .plan
-unfolding opening serving
+unfolding opening serving withdrawing
 step-plan net c =
     ⊎-elim
     (λ e. ap (λ (o : Outcome). o .core .plan) (accepted-step net c (eqb-true (fault net c) 0 e)) ∙ same c)
@@ -184,6 +202,7 @@ step-plan net c =
     same (start ticket node) = refl
     same (call parent ticket node) = refl
     same (return ticket) = refl
+    same (take-back ticket) = refl
 
 pub run-plan : (net : Core) (commands : List Command) → run net commands .plan ≡ net .plan
 run-plan net [] = refl

@@ -2,7 +2,7 @@
 -- rules under an accepted plan can always be emptied by returns: a free call is there as long as any is open. Assumes nothing.
 use Prim.Native.Nat.{ℕ, zero, suc, _+_}
 use native.Mathlib.Omega.{arith}
-use mathlib.Core.Path.{_≡_, refl, sym, ap, subst}
+use mathlib.Core.Path.{_≡_, refl, sym, ap, subst, _∙_}
 use mathlib.Core.Logic.{⊎-elim}
 use mathlib.Core.Bool.{Bool, true, false, not, _&&_, cond}
 use mathlib.Core.List.{List, [], _∷_, List·Memᴰ, List·Memᴰ·head}
@@ -19,41 +19,41 @@ use Rattle.model.specs.Plan.{Record, six, passes}
 use Rattle.model.specs.Reading.{PlanOk}
 use Rattle.model.specs.Net.{Call, Core, empty-net, site-of, has, lookup, node-of, ticket-of, is-on, active-on, admissible, newcomer, opened}
 use Rattle.model.specs.Net.{closed, may-wake, to-wake, activated, woken}
-use Rattle.model.specs.Command.{Command, start, call, return, Answer, refused, active, waiting, fault, Outcome, opening, serving, done, step, run}
+use Rattle.model.specs.Command.{Command, start, call, return, take-back, Answer, refused, active, waiting, fault, Outcome, opening, serving}
+use Rattle.model.specs.Command.{withdrawing, done, step, run}
 use Rattle.model.specs.NetRules.{Keeps}
-use Rattle.model.specs.Steady.{Ending}
+use Rattle.model.specs.Steady.{Ending, Withdrawn}
 use Rattle.model.specs.Tally.{active-calls, admits, returns, command-site, tally, AllAccepted, all-returns}
-use Rattle.model.proofs.FirmLaws.{keeps-firm, closed-firm, to-wake-fits}
-use Rattle.model.proofs.StepLaws.{accepted-step, refused-step, return-fits, step-keeps, empty-keeps, step-plan}
+use Rattle.model.proofs.FirmLaws.{keeps-firm, ending-leaves, closed-firm, to-wake-fits}
+use Rattle.model.proofs.StepLaws.{accepted-step, refused-step, return-fits, back-fits, step-keeps, empty-keeps, step-plan}
 use Rattle.model.proofs.FreeLaws.{Free, somebody-free, free-returns, ticket-not-0}
 
 -- Admissions less returns
-
--- an answer's share at a site
-abbrev share : (Answer → Bool) → ℕ → Bool → Answer → ℕ
-share tells s here answer = one (here && tells answer)
 
 never : (b : Bool) → one (b && false) ≡ 0
 never true = refl
 never false = refl
 
 -- what one outcome does to the active calls of a site: those before and the admissions are those after and the returns
-Balanced : List Record → ℕ → Bool → List Call → Outcome → Type 0
-Balanced rs s here cs o =
-    count (active-on rs s) cs + one (here && admits (o .answer)) ≡ count (active-on rs s) (o .core .calls) + one (here && returns (o .answer))
+Balanced : List Record → ℕ → Bool → List Call → Command → Outcome → Type 0
+Balanced rs s here cs c o =
+    count (active-on rs s) cs + one (here && admits c (o .answer)) ≡ count (active-on rs s) (o .core .calls) + one (here && returns c (o .answer))
 
-opening-balanced : (rs : List Record) (cs : List Call) (s parent ticket node : ℕ)
-    → Balanced rs s (eqb (site-of rs node) s) cs (opening rs cs parent ticket node)
+opening-balanced : (rs : List Record) (cs : List Call) (s parent ticket node : ℕ) (c : Command) → ((a : Answer) → returns c a ≡ false)
+    → Balanced rs s (eqb (site-of rs node) s) cs c (opening rs cs parent ticket node)
 unfolding Balanced opening opened active-on is-on newcomer
-opening-balanced rs cs s parent ticket node =
+opening-balanced rs cs s parent ticket node c no-return =
     omega (arith, count-more (active-on rs s) cs (newcomer rs cs parent ticket node), go (admissible rs cs node))
   where
     here : Bool
     here = eqb (site-of rs node) s
 
-    go : (b : Bool) → one (here && admits (cond b active waiting)) ≡ one (here && b) + one (here && returns (cond b active waiting))
-    go true = omega (arith, never here)
-    go false = omega (arith, never here)
+    no-thread : (a : Answer) → one (here && returns c a) ≡ 0
+    no-thread a = ap (λ (b : Bool). one (here && b)) (no-return a) ∙ never here
+
+    go : (b : Bool) → one (here && admits c (cond b active waiting)) ≡ one (here && b) + one (here && returns c (cond b active waiting))
+    go true = omega (arith, no-thread active)
+    go false = omega (arith, never here, no-thread waiting)
 
 module _ (net : Core) (k : Keeps net) (ticket : ℕ) (gone : Call) (end : Ending (net .calls) ticket gone) (s : ℕ) where
   abbrev rs : List Record
@@ -81,7 +81,7 @@ module _ (net : Core) (k : Keeps net) (ticket : ℕ) (gone : Call) (end : Ending
   unfolding to-wake woken active-on is-on closed
   woken-one none e = omega (arith, ap (count (active-on rs s)) (changed-none activated (may-wake rs left home) left e), never (eqb home s))
   woken-one (some d) e =
-      let f = closed-firm rs (net .calls) (keeps-firm net k) ticket gone end in
+      let f = closed-firm rs (net .calls) (keeps-firm net k) ticket gone (ending-leaves end) in
       let w = to-wake-fits rs left f home d e in
       let some-ticket = ne-eqb (d .ticket) no-ticket (ticket-not-0 net k d (in-without (has ticket) (net .calls) d (w .0))) in
       omega (
@@ -93,7 +93,7 @@ module _ (net : Core) (k : Keeps net) (ticket : ℕ) (gone : Call) (end : Ending
         ap (λ (b : Bool). one (eqb home s && not b)) some-ticket,
       )
 
-  return-balanced : Balanced rs s (eqb home s) (net .calls) (serving rs left home)
+  return-balanced : Balanced rs s (eqb home s) (net .calls) (return ticket) (serving rs left home)
   unfolding Balanced serving
   return-balanced = omega (arith, thread-back, woken-one (to-wake rs left home) refl, at (eqb home s))
     where
@@ -101,23 +101,45 @@ module _ (net : Core) (k : Keeps net) (ticket : ℕ) (gone : Call) (end : Ending
       at true = refl
       at false = refl
 
-refused-balanced : (net : Core) (s : ℕ) (here : Bool) (n : ℕ) → Balanced (net .plan) s here (net .calls) (record { core = net; answer = refused n })
-unfolding Balanced
-refused-balanced net s here n = refl
+-- who waits has no thread to give back
+withdrawn-balanced : (rs : List Record) (cs : List Call) (ticket : ℕ) (gone : Call) → Withdrawn cs ticket gone → (s : ℕ) (here : Bool)
+    → Balanced rs s here cs (take-back ticket) (withdrawing rs cs ticket)
+unfolding Balanced withdrawing closed active-on
+withdrawn-balanced rs cs ticket gone end s here =
+    omega (
+      arith,
+      count-without (has ticket) (active-on rs s) cs gone (end .stands),
+      ap (λ (b : Bool). one (is-on rs s gone && b)) (end .waits),
+      never (is-on rs s gone),
+    )
 
-step-balanced : (net : Core) → Keeps net → (c : Command) (s : ℕ) → Balanced (net .plan) s (eqb (command-site net c) s) (net .calls) (step net c)
+refused-balanced : (net : Core) (s : ℕ) (here : Bool) (c : Command) (n : ℕ)
+    → Balanced (net .plan) s here (net .calls) c (record { core = net; answer = refused n })
+unfolding Balanced
+refused-balanced net s here c n = ap (λ (m : ℕ). count (active-on (net .plan) s) (net .calls) + m) (never here ∙ sym (none-back c))
+  where
+    none-back : (d : Command) → one (here && returns d (refused n)) ≡ 0
+    none-back (start ticket node) = never here
+    none-back (call parent ticket node) = never here
+    none-back (return ticket) = never here
+    none-back (take-back ticket) = never here
+
+step-balanced : (net : Core) → Keeps net → (c : Command) (s : ℕ) → Balanced (net .plan) s (eqb (command-site net c) s) (net .calls) c (step net c)
 step-balanced net k c s =
     ⊎-elim
     (λ e. let fine = eqb-true (fault net c) 0 e in rw (accepted-step net c fine) (accepted c fine))
-    (λ e. rw (refused-step net c (eqb-false (fault net c) 0 e)) (refused-balanced net s (eqb (command-site net c) s) (fault net c)))
+    (λ e. rw (refused-step net c (eqb-false (fault net c) 0 e)) (refused-balanced net s (eqb (command-site net c) s) c (fault net c)))
     (true-or-false (eqb (fault net c) 0))
   where
-    accepted : (d : Command) → fault net d ≡ 0 → Balanced (net .plan) s (eqb (command-site net d) s) (net .calls) (done net d)
-    accepted (start ticket node) e = opening-balanced (net .plan) (net .calls) s no-ticket ticket node
-    accepted (call parent ticket node) e = opening-balanced (net .plan) (net .calls) s parent ticket node
+    accepted : (d : Command) → fault net d ≡ 0 → Balanced (net .plan) s (eqb (command-site net d) s) (net .calls) d (done net d)
+    accepted (start ticket node) e = opening-balanced (net .plan) (net .calls) s no-ticket ticket node (start ticket node) (λ a. refl)
+    accepted (call parent ticket node) e = opening-balanced (net .plan) (net .calls) s parent ticket node (call parent ticket node) (λ a. refl)
     accepted (return ticket) e =
         let w = return-fits net ticket e in
         rw (w .1 .stands) (return-balanced net k ticket (w .0) (w .1) s)
+    accepted (take-back ticket) e =
+        let w = back-fits net ticket e in
+        withdrawn-balanced (net .plan) (net .calls) ticket (w .0) (w .1) s (eqb (command-site net (take-back ticket)) s)
 
 -- along a run
 pub balance : (net : Core) → Keeps net → (s : ℕ) (commands : List Command)

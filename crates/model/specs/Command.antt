@@ -20,13 +20,15 @@ pub data Command : Type 0 where
   call : ℕ → ℕ → ℕ → Command
   -- ticket
   return : ℕ → Command
+  -- ticket: 02, 4/14, "Take back a call that still waits"
+  take-back : ℕ → Command
 
 pub data Answer : Type 0 where
   -- the number of the table
   refused : ℕ → Answer
   active : Answer
   waiting : Answer
-  -- a return: the ticket that was admitted, or 0
+  -- a return or a taking back: the ticket that was admitted, or 0
   ended : ℕ → Answer
 
 -- an answer's number and its values, as everywhere: 0 where nothing is refused; then 1 for active, 0 for waiting, and 2 with its ticket for a return
@@ -64,16 +66,22 @@ abbrev pub return-tests : List Call → ℕ → List (Bool × ℕ)
 return-tests cs ticket =
     (is-open (lookup cs ticket), 27) ∷ (is-active (lookup cs ticket), 28) ∷ (not (has-child cs ticket), 29) ∷ []
 
+-- "Refusals: first 27 if not open, then 34 if active"
+abbrev pub back-tests : List Call → ℕ → List (Bool × ℕ)
+back-tests cs ticket = (is-open (lookup cs ticket), 27) ∷ (not (is-active (lookup cs ticket)), 34) ∷ []
+
 abbrev pub tests : Core → Command → List (Bool × ℕ)
 tests net (start ticket node) = start-tests (net .plan) (net .calls) ticket node
 tests net (call parent ticket node) = call-tests (net .plan) (net .calls) parent ticket node
 tests net (return ticket) = return-tests (net .calls) ticket
+tests net (take-back ticket) = back-tests (net .calls) ticket
 
 -- 01's order lines by themselves (`in-order`, of GivenLaws)
 abbrev pub order : Command → List ℕ
 order (start ticket node) = 20 ∷ 21 ∷ 22 ∷ 26 ∷ []
 order (call parent ticket node) = 20 ∷ 21 ∷ 23 ∷ 24 ∷ 22 ∷ 25 ∷ 26 ∷ []
 order (return ticket) = 27 ∷ 28 ∷ 29 ∷ []
+order (take-back ticket) = 27 ∷ 34 ∷ []
 
 -- the number of the first test that fails, 0 where the command is accepted
 unfoldable pub fault : Core → Command → ℕ
@@ -95,12 +103,17 @@ opening rs cs parent ticket node =
 unfoldable pub serving : List Record → List Call → ℕ → Outcome
 serving rs cs s = record { core = record { plan = rs; calls = woken rs cs s }; answer = ended (ticket-of (to-wake rs cs s)) }
 
+-- "The call leaves .. the others keep their order, and nobody becomes admissible by it", so that nobody is admitted
+unfoldable pub withdrawing : List Record → List Call → ℕ → Outcome
+withdrawing rs cs ticket = record { core = record { plan = rs; calls = closed cs ticket }; answer = ended no-ticket }
+
 -- what an accepted command does
 abbrev pub done : Core → Command → Outcome
 done net (start ticket node) = opening (net .plan) (net .calls) no-ticket ticket node
 done net (call parent ticket node) = opening (net .plan) (net .calls) parent ticket node
 done net (return ticket) =
     serving (net .plan) (closed (net .calls) ticket) (site-of (net .plan) (node-of (lookup (net .calls) ticket)))
+done net (take-back ticket) = withdrawing (net .plan) (net .calls) ticket
 
 abbrev pub decided : Bool → Core → Command → Outcome
 decided true net command = done net command

@@ -15,7 +15,7 @@ use Rattle.model.specs.Reading.{accepted, refused-at, read, PlanOk}
 use Rattle.model.specs.PlanValue.{empty-plan, reading-plan}
 use Rattle.model.specs.Net.{Call, Core, empty-net, site-of, level-of, lookup, ticket-of, has-child, at-or-above, counts, waiting-order, admissible}
 use Rattle.model.specs.Net.{newcomer, closed, woken}
-use Rattle.model.specs.Command.{Command, start, call, return, refused, active, waiting, ended, order, fault, step, run}
+use Rattle.model.specs.Command.{Command, start, call, return, take-back, refused, active, waiting, ended, order, fault, step, run}
 use Rattle.model.specs.NetRules.{Keeps}
 use Rattle.model.specs.Refusals.{rows, First}
 use Rattle.model.specs.Tally.{AllAccepted, all-returns}
@@ -64,6 +64,10 @@ pub record Demand-2 : Type 0 where
   pub return-state : (net : Core) (ticket : ℕ) (gone : Call) → lookup (net .calls) ticket ≡ some gone → fault net (return ticket) ≡ 0
       → step net (return ticket) .core
       ≡ record { plan = net .plan; calls = woken (net .plan) (closed (net .calls) ticket) (site-of (net .plan) (gone .node)) }
+  -- 02, 4/14, a command beside these: the call that still waits leaves, the others keep their order, and nobody is admitted
+  pub back-answer : (net : Core) (ticket : ℕ) → fault net (take-back ticket) ≡ 0 → step net (take-back ticket) .answer ≡ ended no-ticket
+  pub back-state : (net : Core) (ticket : ℕ) → fault net (take-back ticket) ≡ 0
+      → step net (take-back ticket) .core ≡ record { plan = net .plan; calls = closed (net .calls) ticket }
 
 -- 3
 

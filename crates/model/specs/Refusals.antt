@@ -2,7 +2,7 @@
 -- that keeps the rules gives the first that holds (`refused-exactly`, of RefusalRows). Assumes nothing.
 use Prim.Native.Nat.{ℕ}
 use mathlib.Core.Path.{_≡_}
-use mathlib.Core.Bool.{false, cond}
+use mathlib.Core.Bool.{true, false, cond}
 use mathlib.Core.List.{List, [], _∷_, List·Memᴰ}
 use lib.ListN.{length}
 use lib.Dec.{eqb}
@@ -10,11 +10,14 @@ use Rattle.ids.specs.Limits.{no-ticket, most-open}
 use Rattle.model.specs.Plan.{edge}
 use Rattle.model.specs.Records.{Listed}
 use Rattle.model.specs.Net.{Call, Core}
-use Rattle.model.specs.Command.{Command, start, call, return}
+use Rattle.model.specs.Command.{Command, start, call, return, take-back}
 
--- a call of this ticket is open; and it waits
+-- a call of this ticket is open; and it is active; and it waits
 abbrev pub Open : Core → ℕ → Type 0
 Open net ticket = (c : Call) × List·Memᴰ c (net .calls) × (c .ticket ≡ ticket)
+
+abbrev pub Runs : Core → ℕ → Type 0
+Runs net ticket = (c : Call) × List·Memᴰ c (net .calls) × (c .ticket ≡ ticket) × (c .active ≡ true)
 
 abbrev pub Waits : Core → ℕ → Type 0
 Waits net ticket = (c : Call) × List·Memᴰ c (net .calls) × (c .ticket ≡ ticket) × (c .active ≡ false)
@@ -56,7 +59,7 @@ row-25 net parent node =
 abbrev pub row-26 : Core → Row
 row-26 net = row 26 (length (net .calls) ≡ most-open)
 
--- "return of a ticket that is not open"
+-- "return or taking back of a ticket that is not open"
 abbrev pub row-27 : Core → ℕ → Row
 row-27 net ticket = row 27 (Open net ticket → ⊥)
 
@@ -67,6 +70,10 @@ row-28 net ticket = row 28 (Waits net ticket)
 -- "return of a call with an open child"
 abbrev pub row-29 : Core → ℕ → Row
 row-29 net ticket = row 29 ((c : Call) × List·Memᴰ c (net .calls) × (c .parent ≡ ticket))
+
+-- 02: "34 if active"
+abbrev pub row-34 : Core → ℕ → Row
+row-34 net ticket = row 34 (Runs net ticket)
 
 -- "Order for a start: 20, 21, 22, 26. For a call: 20, 21, 23, 24, 22, 25, 26. For a return: 27, 28, 29"
 abbrev pub rows : Core → Command → List Row
@@ -81,6 +88,7 @@ rows net (call parent ticket node) =
     ∷ row-26 net
     ∷ []
 rows net (return ticket) = row-27 net ticket ∷ row-28 net ticket ∷ row-29 net ticket ∷ []
+rows net (take-back ticket) = row-27 net ticket ∷ row-34 net ticket ∷ []
 
 -- the row with the number n holds, and none before it does; for 0, none holds
 abbrev pub First : ℕ → List Row → Type 0

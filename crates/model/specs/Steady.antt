@@ -36,8 +36,18 @@ pub record Newcomer (rs : List Record) (cs : List Call) (parent ticket node : �
   pub room-left : length cs < most-open
   pub parent-fits : (eqb parent no-ticket || parent-stands rs (lookup cs parent) node) ≡ true
 
+-- a call that may leave the table: nobody is beneath it
+pub record Leaver (cs : List Call) (ticket : ℕ) (c : Call) : Type 0 where
+  pub stands : lookup cs ticket ≡ some c
+  pub childless : has-child cs ticket ≡ false
+
 -- what the tests of a return leave of the call that ends
 pub record Ending (cs : List Call) (ticket : ℕ) (c : Call) : Type 0 where
   pub stands : lookup cs ticket ≡ some c
   pub runs : c .active ≡ true
   pub childless : has-child cs ticket ≡ false
+
+-- what the tests of a taking back leave of the call that goes
+pub record Withdrawn (cs : List Call) (ticket : ℕ) (c : Call) : Type 0 where
+  pub stands : lookup cs ticket ≡ some c
+  pub waits : c .active ≡ false

@@ -6,7 +6,7 @@ use Prim.Native.String.{String, len, charAt}
 use mathlib.Core.Bool.{cond}
 use mathlib.Core.List.{List, [], _∷_, _++_}
 use lib.Dec.{ltb}
-use Rattle.model.specs.Command.{Command, start, call, return, Answer, refused, active, waiting, ended, Standing, is-running, is-waiting}
+use Rattle.model.specs.Command.{Command, start, call, return, take-back, Answer, refused, active, waiting, ended, Standing, is-running, is-waiting}
 use Rattle.model.specs.Command.{not-open, Roomed, has-room, room-refused}
 
 abbrev pub Text : Type 0
@@ -78,11 +78,12 @@ room-text (room-refused n) = refusal-text n
 
 -- Lines
 
--- "`S` ticket; `C` parent ticket; `E` ticket"
+-- "`S` ticket; `C` parent ticket; `E` ticket"; a taking back "printed `X`, ticket"
 unfoldable pub command-text : Command → Text
 command-text (start ticket node) = ascii "S" ++ spaced ticket
 command-text (call parent ticket node) = ascii "C" ++ spaced parent ++ spaced ticket
 command-text (return ticket) = ascii "E" ++ spaced ticket
+command-text (take-back ticket) = ascii "X" ++ spaced ticket
 
 -- "`Q` ticket; `M` site level"
 unfoldable pub ask-text : ℕ → Text

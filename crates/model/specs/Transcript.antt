@@ -9,7 +9,7 @@ use Rattle.model.specs.House.{Kinds, Next, lacking, unknown, cut, whole,
 use Rattle.model.specs.Plan.{sites-of, listed, edges}
 use Rattle.model.specs.Reading.{Reading, accepted, refused-at, read}
 use Rattle.model.specs.Net.{Core, empty-net}
-use Rattle.model.specs.Command.{Command, start, call, return, step, ask, room-at}
+use Rattle.model.specs.Command.{Command, start, call, return, take-back, step, ask, room-at}
 use Rattle.model.specs.Text.{Text, newline, answer-text, standing-text, room-text, command-text, ask-text, room-asked-text, plan-line}
 use Rattle.model.specs.Text.{plan-refused-line, done-line, bad-line}
 
@@ -22,12 +22,12 @@ pub data Request : Type 0 where
   room-question : ℕ → ℕ → Request
 
 -- "Commands, in hex .. 10 start (ticket, node); 11 call (parent, ticket, node); 12 return (ticket); 13 ask (ticket); 14 room (site, level). Tickets
--- have two bytes, the rest one"
+-- have two bytes, the rest one"; 02 adds "hex 15 with a ticket"
 abbrev pub command-kinds : Kinds
 command-kinds kind =
     cond (eqb kind 0x10) (some 3)
     (cond (eqb kind 0x11) (some 5)
-    (cond (eqb kind 0x12) (some 2) (cond (eqb kind 0x13) (some 2) (cond (eqb kind 0x14) (some 2) none))))
+    (cond (eqb kind 0x12) (some 2) (cond (eqb kind 0x13) (some 2) (cond (eqb kind 0x14) (some 2) (cond (eqb kind 0x15) (some 2) none)))))
 
 -- "numbers of two bytes high byte first"
 abbrev pub word : List ℕ → ℕ → ℕ
@@ -39,7 +39,8 @@ request kind body =
     cond (eqb kind 0x10) (command (start (word body 0) (getD body 2 0)))
     (cond (eqb kind 0x11) (command (call (word body 0) (word body 2) (getD body 4 0)))
     (cond (eqb kind 0x12) (command (return (word body 0)))
-    (cond (eqb kind 0x13) (question (word body 0)) (room-question (getD body 0 0) (getD body 1 0)))))
+    (cond (eqb kind 0x13) (question (word body 0))
+    (cond (eqb kind 0x15) (command (take-back (word body 0))) (room-question (getD body 0 0) (getD body 1 0))))))
 
 -- "Then a line for each command .. then the answer"
 unfoldable pub line : Core → Request → Text

@@ -16,7 +16,7 @@ use Rattle.model.specs.PlanValue.{records-of, value}
 use Rattle.model.specs.PlanFault.{plan-fault, checked-plan}
 use Rattle.model.specs.Net.{Core, admissible, empty-net}
 use Rattle.model.specs.NetRules.{Keeps}
-use Rattle.model.specs.Command.{Command, start, call, return, Answer, refused, active, waiting, ended, fault, done, opening, serving, step, run}
+use Rattle.model.specs.Command.{Command, start, call, return, take-back, Answer, refused, active, waiting, ended, fault, done, opening, serving, withdrawing, step, run}
 use Rattle.model.specs.Demands.{Safe}
 use Rattle.model.specs.Refusals.{plan-refusal, net-refusal}
 use Rattle.model.specs.declared.Plan.{Plan}
@@ -35,7 +35,7 @@ use Rattle.net.proofs.AnsweredLaws.{broken-answered, broken-asked, brok
 
 -- a command that is accepted is answered by no refusal
 accepts : (net : Core) (c : Command) (n : ℕ) → done net c .answer ≡ refused n → ⊥
-unfolding opening serving
+unfolding opening serving withdrawing
 accepts net (start ticket node) n e = go (admissible (net .plan) (net .calls) node) e
   where
     go : (b : Bool) → cond b active waiting ≡ refused n → ⊥
@@ -47,6 +47,7 @@ accepts net (call parent ticket node) n e = go (admissible (net .plan) (net .cal
     go true q = let z : _≡_ {A = ℕ} 0 1 = cc in omega arith
     go false q = let z : _≡_ {A = ℕ} 0 1 = cc in omega arith
 accepts net (return ticket) n e = let z : _≡_ {A = ℕ} 0 1 = cc in omega arith
+accepts net (take-back ticket) n e = let z : _≡_ {A = ℕ} 0 1 = cc in omega arith
 
 renewed : (net : Net) (core : Core) (a : Answer) → ((n : ℕ) → a ≡ refused n → ⊥) → net-after net core a ≡ value-of (net .plan) (core .calls)
 renewed net core (refused n) no-refusal = absurd (no-refusal n refl)

@@ -2,7 +2,7 @@
 // came, and so is the net of a refused command.
 ghost use mathlib.Core.Path.{_≡_};
 ghost use mathlib.Core.List.{[]};
-ghost use Rattle.model.specs.Command.{start, call, return};
+ghost use Rattle.model.specs.Command.{start, call, return, take-back};
 ghost use Rattle.value.specs.View.{broken};
 ghost use Rattle.value.specs.Handed.{value-of, command-answered, ask-answered, room-answered, make-answered};
 ghost use Rattle.net.specs.Public.{MakeRefusal, CommandAsked, CommandTold, RoomTold};
@@ -91,7 +91,7 @@ pub fn check(net: Net) -> u8
     )
 }
 
-// A start, a call or a return, by its request.
+// A start, a call, a return or a taking back, by its request.
 fn command(net: Net, request: Request) -> Commanded
     requires { ⌜ CommandAsked request ⌝ }
     ensures { λ r. ⌜ CommandTold net request r ⌝ }
@@ -157,6 +157,13 @@ pub fn finish(net: Net, ticket: Ticket) -> Commanded
     ensures { λ r. ⌜ r ≡ command-answered net (return (ticket .0)) ⌝ }
 {
     command(net, Request::Return(ticket.0))
+}
+
+// A taking back of a call that still waits: 27, 34.
+pub fn take_back(net: Net, ticket: Ticket) -> Commanded
+    ensures { λ r. ⌜ r ≡ command-answered net (take-back (ticket .0)) ⌝ }
+{
+    command(net, Request::TakeBack(ticket.0))
 }
 
 // Whether a ticket's call is active, waits or is not open.

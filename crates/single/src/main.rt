@@ -59,6 +59,7 @@ fn answer(net: Net, request: Request) -> Commanded {
             net::call(net, Ticket(parent), Ticket(ticket), Node(node))
         }
         Request::Return(ticket) => net::finish(net, Ticket(ticket)),
+        Request::TakeBack(ticket) => net::take_back(net, Ticket(ticket)),
         Request::Ask(ticket) => Commanded {
             answer: asked(net::ask(net, Ticket(ticket))),
             net,

@@ -3,3 +3,4 @@ pub mod AskLaws
 pub mod StandLaws
 pub mod EnterLaws
 pub mod LeaveLaws
+pub mod BackLaws

@@ -8,8 +8,8 @@ use Rattle.ids.specs.Limits.{sites, nodes, no-ticket}
 use Rattle.model.specs.Plan.{Record, threads, six, passes}
 use Rattle.model.specs.Net.{Call, Core, has-node, site-of, level-of, counts}
 use Rattle.model.specs.NetRules.{Keeps}
-use Rattle.model.specs.Command.{Command, start, call, return, fault, Outcome, step, ask, room-at}
-use Rattle.moves.specs.Held.{Tells, key-of, RoomsTell, Arrays, Held}
+use Rattle.model.specs.Command.{Command, start, call, return, take-back, fault, Outcome, step, ask, room-at}
+use Rattle.moves.specs.Held.{Tells, key-of, RoomsTell, Arrays, arrays, Held}
 use Rattle.faults.specs.Seen.{Listing, Edging, Ticketed, CallSeen}
 use Rattle.text.specs.declared.Printed.{Printed}
 use Rattle.text.specs.Lines.{of-answer, of-standing, of-room}
@@ -73,6 +73,18 @@ abbrev pub Leaves : Arrays → Arrays → ℕ → ℕ → Printed → List ℕ �
 Leaves a b used used-after what most-of places levels ticket =
     (net : Core) (edges : List ℕ) → Running net a used most-of places levels edges
     → Stepped (step net (return ticket)) b used-after what most-of places levels edges
+
+-- A taking back, which looks at no room and nothing of the plan
+
+abbrev pub Withdrawable : List ℕ → List ℕ → List ℕ → List ℕ → ℕ → Type 0
+Withdrawable tickets parents keys open-nodes used =
+    (net : Core) × (rooms most-of places levels edges : List ℕ) × Running net (arrays tickets parents keys open-nodes rooms) used most-of places levels edges
+
+abbrev pub Withdraws : List ℕ → List ℕ → List ℕ → List ℕ → List ℕ → List ℕ → List ℕ → List ℕ → ℕ → ℕ → Printed → ℕ → Type 0
+Withdraws tickets parents keys open-nodes tickets′ parents′ keys′ open-nodes′ used used-after what ticket =
+    (net : Core) (rooms most-of places levels edges : List ℕ)
+    → Running net (arrays tickets parents keys open-nodes rooms) used most-of places levels edges
+    → Stepped (step net (take-back ticket)) (arrays tickets′ parents′ keys′ open-nodes′ rooms) used-after what most-of places levels edges
 
 -- A question
 

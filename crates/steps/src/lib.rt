@@ -9,7 +9,7 @@ ghost use Rattle.model.specs.Command.{active, waiting};
 ghost use Rattle.moves.specs.Held.{arrays};
 ghost use Rattle.faults.specs.Seen.{CallSeen};
 ghost use Rattle.text.specs.Lines.{of-answer};
-ghost use Rattle.steps.specs.Running.{EntryFault, Enterable, Enters, Leavable, Leaves, AskSeen, Asks, RoomSeen, RoomAsked};
+ghost use Rattle.steps.specs.Running.{EntryFault, Enterable, Enters, Leavable, Leaves, Withdrawable, Withdraws, AskSeen, Asks, RoomSeen, RoomAsked};
 use ids::Site;
 use ids::Ticket;
 use text::Printed;
@@ -166,6 +166,33 @@ pub fn leave<'a>(
     Done {
         used: left,
         what: Printed::Number(admitted),
+    }
+}
+
+// A taking back: a call that waits leaves, and nobody is admitted. It looks at no room and nothing of the plan.
+pub fn take_back(
+    tickets: &mut [u16],
+    parents: &mut [u16],
+    keys: &mut [u16],
+    nodes: &mut [u8],
+    used: usize,
+    ticket: u16,
+) -> Done
+    requires { ⌜ Withdrawable (now tickets) (now parents) (now keys) (now nodes) used ⌝ }
+    ensures { λ r. ⌜ Withdraws (now (tickets .entry)) (now (parents .entry)) (now (keys .entry)) (now (nodes .entry)) (now (tickets .exit)) (now (parents .exit)) (now (keys .exit)) (now (nodes .exit)) used (r .used) (r .what) ticket ⌝ }
+{
+    let going = faults::back_fault(tickets, keys, used, ticket);
+    let fault = going.fault;
+    if fault != 0 {
+        return Done {
+            used,
+            what: Printed::Refused(fault),
+        };
+    }
+    table::remove(tickets, parents, keys, nodes, going.at, used);
+    Done {
+        used: used - 1,
+        what: Printed::Number(Ticket::NONE),
     }
 }
 

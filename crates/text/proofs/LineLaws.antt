@@ -2,7 +2,7 @@
 use Prim.Native.Nat.{ℕ}
 use mathlib.Core.Path.{_≡_, refl, sym, ap, _∙_}
 use mathlib.Core.List.{[], _∷_, _++_, append-assoc}
-use Rattle.model.specs.Command.{start, call, return, Answer, refused, active, waiting, ended, step}
+use Rattle.model.specs.Command.{start, call, return, take-back, Answer, refused, active, waiting, ended, step}
 use Rattle.model.specs.Command.{Standing, is-running, is-waiting, not-open, ask, Roomed, has-room, room-refused, room-at}
 use Rattle.model.specs.Net.{Core}
 use Rattle.model.specs.Text.{Text, spaced, newline, answer-text, standing-text, room-text, command-text, ask-text, room-asked-text}
@@ -67,6 +67,11 @@ module _ (net : Core) where
       → line net (command (return ticket)) ≡ line-text 69 ticket what
   unfolding line command-text line-text
   return-line ticket what e = ends (69 ∷ spaced ticket) _ what (answer-printed _ ∙ ap printed e)
+
+  pub back-line : (ticket : ℕ) (what : Printed) → of-answer (step net (take-back ticket) .answer) ≡ what
+      → line net (command (take-back ticket)) ≡ line-text 88 ticket what
+  unfolding line command-text line-text
+  back-line ticket what e = ends (88 ∷ spaced ticket) _ what (answer-printed _ ∙ ap printed e)
 
   pub ask-line : (ticket : ℕ) (what : Printed) → of-standing (ask net ticket) ≡ what → line net (question ticket) ≡ line-text 81 ticket what
   unfolding line ask-text line-text

@@ -144,6 +144,8 @@ fn show_net(words: &[u8], net: Net) {
     say_done(net, net::call(net, Ticket(1), Ticket(5), Node(1)));
     say(b"; return ");
     say_done(net, net::finish(net, Ticket(2)));
+    say(b"; taking back ");
+    say_done(net, net::take_back(net, Ticket(2)));
     say(b"; ask ");
     say_ask(net::ask(net, Ticket(1)));
     say(b"; room ");

@@ -5,13 +5,13 @@ use mathlib.Core.Bool.{true, false}
 use mathlib.Core.List.{List}
 use Rattle.ids.specs.Limits.{no-ticket}
 use Rattle.model.specs.Net.{Core}
-use Rattle.model.specs.Command.{Command, start, call, return, step, ask, room-at}
+use Rattle.model.specs.Command.{Command, start, call, return, take-back, step, ask, room-at}
 use Rattle.model.specs.Transcript as transcript
 use Rattle.model.specs.Transcript.{command, line, after}
 use Rattle.moves.specs.Held.{Arrays}
 use Rattle.text.specs.declared.Printed.{Printed}
 use Rattle.text.specs.Lines.{of-standing, of-room}
-use Rattle.text.proofs.LineLaws.{start-line, call-line, return-line, ask-line, room-line}
+use Rattle.text.proofs.LineLaws.{start-line, call-line, return-line, back-line, ask-line, room-line}
 use Rattle.decode.specs.declared.Request.{Request}
 use Rattle.steps.specs.Running.{Running, CanEnter, Stepped}
 use Rattle.decode.specs.Asked.{asked}
@@ -44,6 +44,11 @@ module _ (net : Core) {b : Arrays} {used : ℕ} {what : Printed} {most-of places
   unfolding after
   returned ticket e s = known-as e (record { says = s .says; runs-on = s .runs-on })
 
+  pub taken-back : {q : Request} (ticket : ℕ) → q ≡ Request.TakeBack ticket
+      → Stepped (step net (take-back ticket)) b used what most-of places levels edges → Answered net q b used what most-of places levels edges
+  unfolding after
+  taken-back ticket e s = known-as e (record { says = s .says; runs-on = s .runs-on })
+
   module _ (run : Running net b used most-of places levels edges) where
     pub asked-standing : {q : Request} (ticket : ℕ) → q ≡ Request.Ask ticket → what ≡ of-standing (ask net ticket)
         → Answered net q b used what most-of places levels edges
@@ -60,6 +65,7 @@ line-is : (net : Core) (q : Request) (what : Printed) → what ≡ answer-to net
 line-is net (Request.Start node ticket) what e = start-line net ticket node what (sym e)
 line-is net (Request.Call node parent ticket) what e = call-line net parent ticket node what (sym e)
 line-is net (Request.Return ticket) what e = return-line net ticket what (sym e)
+line-is net (Request.TakeBack ticket) what e = back-line net ticket what (sym e)
 line-is net (Request.Ask ticket) what e = ask-line net ticket what (sym e)
 line-is net (Request.Room s k) what e = room-line net s k what (sym e)
 

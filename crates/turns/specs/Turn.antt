@@ -22,6 +22,7 @@ request-line (Request.Start node ticket) what = line-text 83 ticket what
 request-line (Request.Call node parent ticket) what = line2-text 67 parent ticket what
 request-line (Request.Return ticket) what = line-text 69 ticket what
 request-line (Request.Ask ticket) what = line-text 81 ticket what
+request-line (Request.TakeBack ticket) what = line-text 88 ticket what
 request-line (Request.Room site level) what = line2-text 77 site level what
 
 -- An answer

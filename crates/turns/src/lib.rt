@@ -27,6 +27,7 @@ fn print(text: &mut [u8], at: usize, request: Request, what: Printed) -> usize
         Request::Call(_, parent, ticket) => text::line2(text, at, b'C', parent, ticket, what),
         Request::Return(ticket) => text::line(text, at, b'E', ticket, what),
         Request::Ask(ticket) => text::line(text, at, b'Q', ticket, what),
+        Request::TakeBack(ticket) => text::line(text, at, b'X', ticket, what),
         Request::Room(site, level) => {
             text::line2(text, at, b'M', site as u16, level as u16, what)
         }
@@ -95,6 +96,9 @@ pub fn answer<'a>(
             levels,
             ticket,
         ),
+        Request::TakeBack(ticket) => {
+            steps::take_back(tickets, parents, keys, nodes, used, ticket)
+        }
         Request::Ask(ticket) => Done {
             used,
             what: steps::ask(tickets, keys, used, ticket),

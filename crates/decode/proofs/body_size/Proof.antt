@@ -19,14 +19,19 @@ returns-5 : tie.Need-returns-5
 returns-5 c = rw (c .match .keys5)
 
 returns-6 : tie.Need-returns-6
-returns-6 c =
+returns-6 c = rw (c .match .keys6)
+
+returns-7 : tie.Need-returns-7
+returns-7 c =
     let others = c .match .rest in
+    let first = others .0 .0 .0 in
     rw (
-      ne-eqb _ 0x10 (others .0 .0 .0 .0 .1),
-      ne-eqb _ 0x11 (others .0 .0 .0 .1),
-      ne-eqb _ 0x12 (others .0 .0 .1),
-      ne-eqb _ 0x13 (others .0 .1),
-      ne-eqb _ 0x14 (others .1),
+      ne-eqb _ 0x10 (first .0 .0 .1),
+      ne-eqb _ 0x11 (first .0 .1),
+      ne-eqb _ 0x12 (first .1),
+      ne-eqb _ 0x13 (others .0 .0 .1),
+      ne-eqb _ 0x14 (others .0 .1),
+      ne-eqb _ 0x15 (others .1),
     )
 
 pub body-size-spec : {M : Type 1} → statement M
@@ -38,4 +43,5 @@ body-size-spec =
     returns-3
     returns-4
     returns-5
-    returns-6)
+    returns-6
+    returns-7)

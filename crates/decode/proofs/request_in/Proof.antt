@@ -44,13 +44,20 @@ returns-4 c =
 
 returns-5 : tie.Need-returns-5
 returns-5 c =
+    let at-number = c .before in
+    let at-second = at-number .before .before in
+    rw (c .match .keys5, at-number .word .ensures, at-second .byte2 .ensures, at-second .before .byte .ensures)
+
+returns-6 : tie.Need-returns-6
+returns-6 c =
     let others = c .match .rest in
     let at-second = c .before .before .before in
     rw (
-      ne-eqb _ 0x10 (others .0 .0 .0 .1),
-      ne-eqb _ 0x11 (others .0 .0 .1),
-      ne-eqb _ 0x12 (others .0 .1),
-      ne-eqb _ 0x13 (others .1),
+      ne-eqb _ 0x10 (others .0 .0 .0 .0 .1),
+      ne-eqb _ 0x11 (others .0 .0 .0 .1),
+      ne-eqb _ 0x12 (others .0 .0 .1),
+      ne-eqb _ 0x13 (others .0 .1),
+      ne-eqb _ 0x15 (others .1),
       at-second .byte2 .ensures,
       at-second .before .byte .ensures,
     )
@@ -70,4 +77,5 @@ request-in-spec =
     returns-2
     returns-3
     returns-4
-    returns-5)
+    returns-5
+    returns-6)

@@ -1,4 +1,5 @@
 -- `moves::close` meets its contract: the gap closes, the thread comes back, and the laws of a closing say what the arrays then hold. Assumes nothing.
+use Rattle.model.proofs.FirmLaws.{ending-leaves}
 use Rattle.moves.proofs.CloseLaws.{gap, give-fits, closed-held}
 use borrow.Author.Needs.{needs}
 use Rattle.moves.proofs.close.Statement.{statement}
@@ -13,7 +14,9 @@ abbrev removal : tie.After-give-arg → tie.After-remove
 removal c = let at-keys = c .before .before .before .before in let at-tickets = at-keys .before .before .before .before in at-tickets .before
 
 remove-requires : tie.Need-remove-requires
-remove-requires c κs = gap (entry c .pre .4)
+remove-requires c κs =
+    let ok = entry c .pre .4 in
+    gap (ok .held) (ending-leaves (ok .ending)) _ (ok .place)
 
 give-requires : tie.Need-give-requires
 give-requires c κs = give-fits (entry (removal c .before) .pre .4)

@@ -1,6 +1,6 @@
 -- `turns::answer` meets its contract: each request is answered by its own step, and a question leaves the arrays as they are. Assumes nothing.
 use Rattle.steps.proofs.SeenLaws.{ask-seen, room-seen}
-use Rattle.turns.proofs.AnswerLaws.{may-start, may-call, started, called, returned, asked-standing, asked-room}
+use Rattle.turns.proofs.AnswerLaws.{may-start, may-call, started, called, returned, taken-back, asked-standing, asked-room}
 use borrow.Author.Needs.{needs}
 use Rattle.turns.proofs.answer.Statement.{statement}
 use Rattle.turns.proofs.answer.Tie as tie
@@ -75,6 +75,20 @@ returns-3 c =
     let known = returning (done .before) in
     λ net run. returned net _ (known .request3 .given .1) (done .leave .ensures net _ run)
 
+-- A taking back
+
+abbrev withdrawing : tie.After-take-back-arg4 → tie.After-request4
+withdrawing c =
+    let second = c .before .before .before in
+    second .before .before
+
+returns-4 : tie.Need-returns-4
+returns-4 c =
+    let keys-back = c .before .before .before .before in
+    let done = keys-back .before .before .before .before in
+    let known = withdrawing (done .before) in
+    λ net run. taken-back net _ (known .request4 .given .1) (done .take-back .ensures net _ _ _ _ _ run)
+
 -- A question
 
 ask-requires : tie.Need-ask-requires
@@ -83,10 +97,10 @@ ask-requires c κs =
     let ok = entry (known .before .before) .pre in
     (ok .0, ask-seen (ok .1))
 
-returns-4 : tie.Need-returns-4
-returns-4 c =
+returns-5 : tie.Need-returns-5
+returns-5 c =
     let known = c .before .before .before .before in
-    λ net run. asked-standing net run _ (known .request4 .given .1) (c .ask .ensures net (ask-seen run))
+    λ net run. asked-standing net run _ (known .request5 .given .1) (c .ask .ensures net (ask-seen run))
 
 -- A room
 
@@ -96,10 +110,10 @@ room-requires c κs =
     let ok = entry (known .before .before) .pre in
     (ok .0, room-seen (ok .1))
 
-returns-5 : tie.Need-returns-5
-returns-5 c =
+returns-6 : tie.Need-returns-6
+returns-6 c =
     let known = c .before .before .before in
-    λ net run. asked-room net run _ _ (known .request5 .given .1) (c .room .ensures net (room-seen run))
+    λ net run. asked-room net run _ _ (known .request6 .given .1) (c .room .ensures net (room-seen run))
 
 pub answer-spec : {M : Type 1} → statement M
 answer-spec =
@@ -111,6 +125,8 @@ answer-spec =
     enter-requires-2
     (λ c. search needs)
     leave-requires
+    (λ c. search needs)
+    (λ c κs. search needs)
     (λ c. search needs)
     ask-requires
     (λ c. search needs)
@@ -135,6 +151,11 @@ answer-spec =
     returns-3
     (λ c. search needs)
     (λ c. search needs)
+    (λ c. search needs)
+    (λ c. search needs)
     returns-4
     (λ c. search needs)
-    returns-5)
+    (λ c. search needs)
+    returns-5
+    (λ c. search needs)
+    returns-6)

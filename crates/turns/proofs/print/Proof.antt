@@ -51,15 +51,25 @@ same-length-4 c = put-long (returns-4 c)
 returns-5 : tie.Need-returns-5
 returns-5 c =
     let at-line = c .before .before in
-    told _ (at-line .before .before .before .request5 .given .1) (at-line .line22 .ensures)
+    told _ (at-line .before .before .before .request5 .given .1) (at-line .line5 .ensures)
 
 same-length-5 : tie.Need-same-length-5
 same-length-5 c = put-long (returns-5 c)
+
+returns-6 : tie.Need-returns-6
+returns-6 c =
+    let at-line = c .before .before in
+    told _ (at-line .before .before .before .request6 .given .1) (at-line .line22 .ensures)
+
+same-length-6 : tie.Need-same-length-6
+same-length-6 c = put-long (returns-6 c)
 
 pub print-spec : {M : Type 1} → statement M
 print-spec =
     tie.close
     (tie.spec
+    (λ c. search needs)
+    (λ c κs. search needs)
     (λ c. search needs)
     (λ c κs. search needs)
     (λ c. search needs)
@@ -81,4 +91,6 @@ print-spec =
     same-length-4
     returns-4
     same-length-5
-    returns-5)
+    returns-5
+    same-length-6
+    returns-6)
