@@ -59,7 +59,7 @@ row-25 net parent node =
 abbrev pub row-26 : Core → Row
 row-26 net = row 26 (length (net .calls) ≡ most-open)
 
--- "return or taking back of a ticket that is not open"
+-- "return of a ticket that is not open"; of a taking back 02 says "27 if not open"
 abbrev pub row-27 : Core → ℕ → Row
 row-27 net ticket = row 27 (Open net ticket → ⊥)
 
