@@ -8,7 +8,7 @@ use mathlib.Core.Logic.{_⊎_, inl, inr, ⊎-elim, _↔_}
 use mathlib.Core.Bool.{Bool, true, false, not, _&&_, _||_, cond}
 use mathlib.Core.List.{List, [], _∷_}
 use lib.ListN.{length, getD, drop, set}
-use Rattle.lists.specs.Count.{sum, every, first}
+use Rattle.lists.specs.Count.{sum, every, first, last}
 
 -- Cases
 pub lt-or-ge : (a b : ℕ) → (a < b) ⊎ (b ≤ a)
@@ -140,6 +140,43 @@ first-none n f none =
     (λ (p : first n f < n). absurd (never-both (first-holds n f p) (none (first n f) p)))
     (λ p. omega (arith, first-le n f))
     (lt-or-ge (first n f) n)
+
+-- The greatest number of which a test holds
+pub last-at : (n : ℕ) (f : ℕ → Bool) → f n ≡ true → last (suc n) f ≡ n
+unfolding last
+last-at n f e = rw e
+
+pub last-passed : (n : ℕ) (f : ℕ → Bool) → f n ≡ false → last (suc n) f ≡ last n f
+unfolding last
+last-passed n f e = rw e
+
+-- a number that passes, with none above it that does, is the greatest
+pub last-is : (n : ℕ) (f : ℕ → Bool) (k : ℕ) → k < n → f k ≡ true → ((j : ℕ) → k < j → j < n → f j ≡ false) → last n f ≡ k
+last-is zero f k l t above = absurd (not-suc-le-zero l)
+last-is (suc n) f k l t above =
+    ⊎-elim
+    (λ (e : k ≡ n). subst (λ (m : ℕ). last (suc n) f ≡ m) (sym e) (last-at n f (subst (λ (m : ℕ). f m ≡ true) e t)))
+    (λ (p : k < n). last-passed n f (above n p (omega arith)) ∙ last-is n f k p t (λ j h q. above j h (omega arith)))
+    (eq-or-lt-of-le (le-of-suc-le-suc l))
+
+-- where some number passes, so does the greatest, and none above it
+abbrev Greatest : (ℕ → Bool) → ℕ → ℕ → Type 0
+Greatest f n m = (f m ≡ true) × (m < n) × ((j : ℕ) → m < j → j < n → f j ≡ false)
+
+pub last-holds : (n : ℕ) (f : ℕ → Bool) (k : ℕ) → k < n → f k ≡ true → Greatest f n (last n f)
+last-holds zero f k l t = absurd (not-suc-le-zero l)
+last-holds (suc n) f k l t = go (f n) refl (λ p. last-holds n f k p t)
+  where
+    go : (b : Bool) → f n ≡ b → (k < n → Greatest f n (last n f)) → Greatest f (suc n) (last (suc n) f)
+    go true e lower = subst (Greatest f (suc n)) (sym (last-at n f e)) (e, omega arith, λ j h q. absurd (omega arith))
+    go false e lower =
+        let apart : k ≡ n → ⊥ = λ q. never-both t (subst (λ (m : ℕ). f m ≡ false) (sym q) e) in
+        let w = lower (omega (arith, apart)) in
+        subst (Greatest f (suc n)) (sym (last-passed n f e)) (
+          w .0,
+          omega (arith, w .1),
+          λ j h q. ⊎-elim (λ (r : j ≡ n). subst (λ (m : ℕ). f m ≡ false) (sym r) e) (λ (r : j < n). w .2 j h r) (eq-or-lt-of-le (le-of-suc-le-suc q)),
+        )
 
 -- Sums of what is left of a list
 pub sum-drop-step : (a : List ℕ) (k : ℕ) → sum (drop k a) ≡ getD a k 0 + sum (drop (suc k) a)
