@@ -1,9 +1,9 @@
 -- Laws of tests over the numbers below a bound, of the least number that passes one, and of sums: by induction over the bound or the list.
 -- Assumes nothing.
-use Prim.Native.Nat.{ℕ, zero, suc, _+_, _≤_, _<_, zero-le, suc-le-suc}
+use Prim.Native.Nat.{ℕ, zero, suc, _+_, _-_, _≤_, _<_, zero-le, suc-le-suc}
 use native.Mathlib.Nat.{not-suc-le-zero, le-of-suc-le-suc, eq-or-lt-of-le}
 use native.Mathlib.Omega.{arith}
-use mathlib.Core.Path.{_≡_, refl, sym, ap, subst, _∙_}
+use mathlib.Core.Path.{_≡_, refl, sym, ap, ap₂, subst, _∙_}
 use mathlib.Core.Logic.{_⊎_, inl, inr, ⊎-elim, _↔_}
 use mathlib.Core.Bool.{Bool, true, false, not, _&&_, _||_, cond}
 use mathlib.Core.List.{List, [], _∷_}
@@ -149,6 +149,28 @@ last-at n f e = rw e
 pub last-passed : (n : ℕ) (f : ℕ → Bool) → f n ≡ false → last (suc n) f ≡ last n f
 unfolding last
 last-passed n f e = rw e
+
+-- a search downwards has come to k: the greatest is the greatest up to there
+module _ (top : ℕ) (f : ℕ → Bool) (k : ℕ) (come : last top f ≡ last (suc k) f) where
+  pub last-here : f k ≡ true → k ≡ last top f
+  last-here e = sym (come ∙ last-at k f e)
+
+  pub last-lower : 0 < k → f k ≡ false → last top f ≡ last (suc (k - 1)) f
+  last-lower h e = let q : suc (k - 1) ≡ k = omega arith in come ∙ last-passed k f e ∙ ap (λ (n : ℕ). last n f) (sym q)
+
+  pub last-bottom : k ≤ 0 → 0 ≡ last top f
+  unfolding last
+  last-bottom h = let q : k ≡ 0 = omega arith in sym (come ∙ ap (λ (n : ℕ). last (suc n) f) q ∙ go (f 0))
+    where
+      go : (b : Bool) → _≡_ {A = ℕ} (cond b 0 0) 0
+      go true = refl
+      go false = refl
+
+-- two tests that agree below a bound have the same greatest
+pub last-same : (n : ℕ) (f g : ℕ → Bool) → ((k : ℕ) → k < n → f k ≡ g k) → last n f ≡ last n g
+unfolding last
+last-same zero f g same = refl
+last-same (suc n) f g same = ap₂ (λ (b : Bool) (m : ℕ). cond b n m) (same n (omega arith)) (last-same n f g (λ k h. same k (omega arith)))
 
 -- a number that passes, with none above it that does, is the greatest
 pub last-is : (n : ℕ) (f : ℕ → Bool) (k : ℕ) → k < n → f k ≡ true → ((j : ℕ) → k < j → j < n → f j ≡ false) → last n f ≡ k
