@@ -1,6 +1,8 @@
 // The site book: which levels may be admitted at a site with some threads and some active calls. Every function takes the thread count and the
 // 64 counts of active calls by level, and answers a refusal where they are not those of a lawful site.
 ghost use mathlib.Core.Path.{_≡_};
+ghost use Rattle.model.specs.Site.{blocking};
+ghost use Rattle.book.specs.Asked.{Asked};
 ghost use Rattle.model.specs.Answers.{toldLevel, toldAdmission, toldRoom, level-answer, admission-answer, room-answer, firmware};
 use ids::Level;
 use model::AdmissionAnswer;

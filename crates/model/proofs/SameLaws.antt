@@ -247,7 +247,7 @@ module _ (rs : List Record) (cs ds : List Call) (k : Keeps (net-of rs cs)) (l : 
   unfolding opening
   opened-same parent ticket node = (
     ap₂ (λ (b : Bool) (l : ℕ). cond b active (waiting l)) (admissible-same rs cs ds alike orders (k .plan-passes) node)
-    (in-the-way-same rs cs ds alike orders (k .plan-passes) node),
+        (in-the-way-same rs cs ds alike orders (k .plan-passes) node),
     record {
       plans = refl;
       calls = opened-alike rs cs ds alike orders (k .plan-passes) parent ticket node;
