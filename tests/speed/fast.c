@@ -251,8 +251,18 @@ static inline int give(int site, int level) {
     return net.limit[site] = (uint8_t)(8 * w + __builtin_ctzll(full) / 8);
 }
 
-/* How a line ends: a letter, or `R` and this number. */
-enum { GRANTED, WAITS, IS_ACTIVE, ABSENT };
+/* The highest level up to this one without room; there is one. Rooms are at most 64, so that no byte carries into the next one and the
+   marks are exact. */
+static inline int blocking(int site, int level) {
+    const uint64_t *rooms = net.rooms[site];
+    int w = level / 8;
+    uint64_t full = ~(rooms[w] + 127 * ONES) & (up_to(level) << 7);
+    while (full == 0) full = ~(rooms[--w] + 127 * ONES) & (ONES << 7);
+    return 8 * w + 7 - __builtin_clzll(full) / 8;
+}
+
+/* How a line ends: a letter, `R` and this number, or from BLOCKED on `W` and a level. */
+enum { GRANTED, WAITS, IS_ACTIVE, ABSENT, BLOCKED = 64 };
 
 static inline int opened(uint16_t parent, uint16_t ticket, int rank) {
     int at = net.open;
@@ -268,7 +278,7 @@ static inline int opened(uint16_t parent, uint16_t ticket, int rank) {
     }
     net.ranks[at] = (uint8_t)rank;
     net.waiting[site]++;
-    return WAITS;
+    return BLOCKED + blocking(site, level);
 }
 
 static inline int start(uint16_t ticket, uint8_t node) {
@@ -344,15 +354,16 @@ static inline int room(uint8_t site, uint8_t level) {
 
 /* The text. */
 
-static uint64_t tails[32];     /* the bytes of each tail, and in the eighth how many they are */
+static uint64_t tails[128];     /* the bytes of each tail, and in the eighth how many they are */
 static uint32_t digits[1000];  /* numbers below 1000: their digits, and in the fourth byte how many they are */
 static uint32_t three[1000];   /* the same with zeros in front */
 
 static void set_tables(void) {
-    for (int i = 0; i < 32; i++) {
+    for (int i = 0; i < 128; i++) {
         char t[9] = "         ";
         if (i <= ABSENT) sprintf(t, " %c\n", "GWAN"[i]);
-        else sprintf(t, " R %02d\n", i);
+        else if (i < BLOCKED) sprintf(t, " R %02d\n", i);
+        else sprintf(t, " W %d\n", i - BLOCKED);
         t[7] = (char)strlen(t);
         memcpy(&tails[i], t, 8);
     }

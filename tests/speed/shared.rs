@@ -20,6 +20,8 @@ pub trait Way {
     fn take(&mut self, site: usize, level: u8, limit: &mut u8);
     /// One call less; the limit rises only where it was at this level or below.
     fn give(&mut self, site: usize, level: u8, limit: &mut u8, threads: u8);
+    /// The highest level up to this one without room; there is one.
+    fn blocking(&self, site: usize, level: u8) -> u8;
     /// The room at a level below T.
     fn room(&self, site: usize, level: u8) -> u8;
     /// The place of a ticket, which is not 0.
@@ -334,7 +336,7 @@ impl<W: Way> Net<W> {
         }
         self.ranks[at] = rank;
         self.waiting[site] += 1;
-        WAITS
+        BLOCKED + self.rooms.blocking(site, level)
     }
 
     /// The ticket admitted or 0, or a refusal.
@@ -408,12 +410,13 @@ impl<W: Way> Net<W> {
 
 // The text.
 
-/// How a line ends: a letter, or `R` and this number.
+/// How a line ends: a letter, `R` and this number, or from BLOCKED on `W` and a level.
 pub type Tail = u8;
 pub const GRANTED: Tail = 0;
 pub const WAITS: Tail = 1;
 pub const IS_ACTIVE: Tail = 2;
 pub const ABSENT: Tail = 3;
+pub const BLOCKED: Tail = 64;
 
 /// A line in the making. No line has more than 20 bytes, so that the cuts to 31 change nothing.
 pub struct Line<'a> {
