@@ -341,6 +341,16 @@ static inline int back(uint16_t ticket) {
     return new == old || net.waiting[site] == 0 ? 0 : serve(site, old, new);
 }
 
+/* A call that waits leaves, and nobody is admitted: 0, or a refusal less 100. */
+static inline int take_back(uint16_t ticket) {
+    int at = ticket == 0 ? -1 : find(ticket);
+    if (at < 0) return 27 - 100;
+    if (net.ranks[at] >= ACTIVE) return 34 - 100;
+    net.waiting[net.site[net.ranks[at]]]--;
+    close_gap(at);
+    return 0;
+}
+
 static inline int ask(uint16_t ticket) {
     int at = ticket == 0 ? -1 : find(ticket);
     return at < 0 ? ABSENT : net.ranks[at] < ACTIVE ? WAITS : IS_ACTIVE;
@@ -428,6 +438,9 @@ static inline char *command(char *p, uint64_t word, const uint8_t **in) {
     case 0x14:
         *in += 3;
         return answer(second(head(p, 'M', one >> 8), one & 255), room((uint8_t)(one >> 8), (uint8_t)one));
+    case 0x15:
+        *in += 3;
+        return answer(head(p, 'X', one), take_back(one));
     default:
         return p;
     }
@@ -472,7 +485,7 @@ static bool put_out(const char *bytes, size_t length) {
 
 /* The command at the front of what is left of the input has not all its bytes. */
 static bool cut(void) {
-    size_t due = *in == 0x10 ? 4 : *in == 0x11 ? 6 : *in >= 0x12 && *in <= 0x14 ? 3 : 1;
+    size_t due = *in == 0x10 ? 4 : *in == 0x11 ? 6 : *in >= 0x12 && *in <= 0x15 ? 3 : 1;
     return (size_t)(end - in) < due;
 }
 

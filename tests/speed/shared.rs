@@ -390,6 +390,19 @@ impl<W: Way> Net<W> {
         self.tickets[at & 255]
     }
 
+    /// A call that waits leaves, and nobody is admitted: 0, or a refusal.
+    #[inline(always)]
+    fn take_back(&mut self, ticket: u16) -> Result<u16, Tail> {
+        let Some((at, rank)) = self.look_up(ticket) else { return Err(27) };
+        if rank >= ACTIVE {
+            return Err(34);
+        }
+        let (site, _) = self.place(rank);
+        self.close(at);
+        self.waiting[site] -= 1;
+        Ok(0)
+    }
+
     #[inline(always)]
     fn ask(&self, ticket: u16) -> Tail {
         match self.look_up(ticket) {
@@ -485,6 +498,12 @@ fn command<W: Way>(net: &mut Net<W>, word: u64, line: &mut Line) -> usize {
             answer::<W>(line, net.room((first >> 8) as u8, first as u8));
             3
         }
+        0x15 => {
+            line.put([b'X', b' '], 2);
+            W::number(line, first);
+            answer::<W>(line, net.take_back(first));
+            3
+        }
         _ => 0,
     }
 }
@@ -526,7 +545,7 @@ impl Source {
         let length = match self.bytes[self.at] {
             0x10 => 4,
             0x11 => 6,
-            0x12..=0x14 => 3,
+            0x12..=0x15 => 3,
             _ => 1,
         };
         self.end - self.at < length
