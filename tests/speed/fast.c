@@ -251,8 +251,18 @@ static inline int give(int site, int level) {
     return net.limit[site] = (uint8_t)(8 * w + __builtin_ctzll(full) / 8);
 }
 
-/* How a line ends: a letter, or `R` and this number. */
-enum { GRANTED, WAITS, IS_ACTIVE, ABSENT };
+/* The highest level up to this one without room; there is one. Rooms are at most 64, so that no byte carries into the next one and the
+   marks are exact. */
+static inline int blocking(int site, int level) {
+    const uint64_t *rooms = net.rooms[site];
+    int w = level / 8;
+    uint64_t full = ~(rooms[w] + 127 * ONES) & (up_to(level) << 7);
+    while (full == 0) full = ~(rooms[--w] + 127 * ONES) & (ONES << 7);
+    return 8 * w + 7 - __builtin_clzll(full) / 8;
+}
+
+/* How a line ends: a letter, `R` and this number, or from BLOCKED on `W` and a level. */
+enum { GRANTED, WAITS, IS_ACTIVE, ABSENT, BLOCKED = 64 };
 
 static inline int opened(uint16_t parent, uint16_t ticket, int rank) {
     int at = net.open;
@@ -268,7 +278,7 @@ static inline int opened(uint16_t parent, uint16_t ticket, int rank) {
     }
     net.ranks[at] = (uint8_t)rank;
     net.waiting[site]++;
-    return WAITS;
+    return BLOCKED + blocking(site, level);
 }
 
 static inline int start(uint16_t ticket, uint8_t node) {
@@ -331,6 +341,16 @@ static inline int back(uint16_t ticket) {
     return new == old || net.waiting[site] == 0 ? 0 : serve(site, old, new);
 }
 
+/* A call that waits leaves, and nobody is admitted: 0, or a refusal less 100. */
+static inline int take_back(uint16_t ticket) {
+    int at = ticket == 0 ? -1 : find(ticket);
+    if (at < 0) return 27 - 100;
+    if (net.ranks[at] >= ACTIVE) return 34 - 100;
+    net.waiting[net.site[net.ranks[at]]]--;
+    close_gap(at);
+    return 0;
+}
+
 static inline int ask(uint16_t ticket) {
     int at = ticket == 0 ? -1 : find(ticket);
     return at < 0 ? ABSENT : net.ranks[at] < ACTIVE ? WAITS : IS_ACTIVE;
@@ -344,15 +364,16 @@ static inline int room(uint8_t site, uint8_t level) {
 
 /* The text. */
 
-static uint64_t tails[32];     /* the bytes of each tail, and in the eighth how many they are */
+static uint64_t tails[128];     /* the bytes of each tail, and in the eighth how many they are */
 static uint32_t digits[1000];  /* numbers below 1000: their digits, and in the fourth byte how many they are */
 static uint32_t three[1000];   /* the same with zeros in front */
 
 static void set_tables(void) {
-    for (int i = 0; i < 32; i++) {
+    for (int i = 0; i < 128; i++) {
         char t[9] = "         ";
         if (i <= ABSENT) sprintf(t, " %c\n", "GWAN"[i]);
-        else sprintf(t, " R %02d\n", i);
+        else if (i < BLOCKED) sprintf(t, " R %02d\n", i);
+        else sprintf(t, " W %d\n", i - BLOCKED);
         t[7] = (char)strlen(t);
         memcpy(&tails[i], t, 8);
     }
@@ -417,6 +438,9 @@ static inline char *command(char *p, uint64_t word, const uint8_t **in) {
     case 0x14:
         *in += 3;
         return answer(second(head(p, 'M', one >> 8), one & 255), room((uint8_t)(one >> 8), (uint8_t)one));
+    case 0x15:
+        *in += 3;
+        return answer(head(p, 'X', one), take_back(one));
     default:
         return p;
     }
@@ -461,7 +485,7 @@ static bool put_out(const char *bytes, size_t length) {
 
 /* The command at the front of what is left of the input has not all its bytes. */
 static bool cut(void) {
-    size_t due = *in == 0x10 ? 4 : *in == 0x11 ? 6 : *in >= 0x12 && *in <= 0x14 ? 3 : 1;
+    size_t due = *in == 0x10 ? 4 : *in == 0x11 ? 6 : *in >= 0x12 && *in <= 0x15 ? 3 : 1;
     return (size_t)(end - in) < due;
 }
 

@@ -114,6 +114,18 @@ impl Way for Rooms {
         }
     }
 
+    /// Rooms are at most 64, so that no byte carries into the next one and the marks are exact.
+    #[inline(always)]
+    fn blocking(&self, site: usize, level: u8) -> u8 {
+        let (rooms, mut w) = (&self.0[site], usize::from(level / 8 & 7));
+        let mut full = !(rooms[w] + 127 * ONES) & (up_to(level) << 7);
+        while full == 0 && w > 0 {
+            w -= 1;
+            full = !(rooms[w] + 127 * ONES) & (ONES << 7);
+        }
+        8 * w as u8 + 7 - (full.leading_zeros() / 8) as u8
+    }
+
     #[inline(always)]
     fn room(&self, site: usize, level: u8) -> u8 {
         (self.0[site][usize::from(level / 8 & 7)] >> (8 * (level % 8))) as u8
@@ -175,7 +187,7 @@ impl Way for Rooms {
 
     #[inline(always)]
     fn tail(line: &mut Line, tail: Tail) {
-        let t = TAILS[usize::from(tail & 31)];
+        let t = TAILS[usize::from(tail & 127)];
         line.put(t.to_le_bytes(), (t >> 56) as usize);
     }
 }
@@ -183,18 +195,22 @@ impl Way for Rooms {
 // The text.
 
 /// The bytes of each tail, the first one lowest, and in the eighth how many they are.
-static TAILS: [u64; 32] = tails();
+static TAILS: [u64; 128] = tails();
 /// Numbers below 1000: their digits from the first, and in the fourth byte how many they are.
 static DIGITS: [[u8; 4]; 1000] = digits(true);
 /// The same with zeros in front.
 static THREE: [[u8; 4]; 1000] = digits(false);
 
-const fn tails() -> [u64; 32] {
-    let mut all = [0; 32];
+const fn tails() -> [u64; 128] {
+    let mut all = [0; 128];
     let mut i = 0;
-    while i < 32 {
+    while i < 64 {
         let no = [b'0' + i as u8 / 10, b'0' + i as u8 % 10];
         all[i] = u64::from_le_bytes([b' ', b'R', b' ', no[0], no[1], b'\n', 0, 6]);
+        all[BLOCKED as usize + i] = match i {
+            0..10 => u64::from_le_bytes([b' ', b'W', b' ', no[1], b'\n', 0, 0, 5]),
+            _ => u64::from_le_bytes([b' ', b'W', b' ', no[0], no[1], b'\n', 0, 6]),
+        };
         i += 1;
     }
     all[GRANTED as usize] = u64::from_le_bytes(*b" G\n\0\0\0\0\x03");

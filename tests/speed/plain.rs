@@ -99,6 +99,12 @@ impl Way for Rooms {
     }
 
     #[inline(always)]
+    fn blocking(&self, site: usize, level: u8) -> u8 {
+        let rooms = &self.0[site].as_flattened()[..=usize::from(level & 63)];
+        rooms.iter().rposition(|room| *room == 0).unwrap_or(0) as u8
+    }
+
+    #[inline(always)]
     fn room(&self, site: usize, level: u8) -> u8 {
         self.0[site][usize::from(level / 16)][usize::from(level % 16)]
     }
@@ -136,6 +142,11 @@ impl Way for Rooms {
             WAITS => line.put(*b" W\n", 3),
             IS_ACTIVE => line.put(*b" A\n", 3),
             ABSENT => line.put(*b" N\n", 3),
+            BLOCKED.. => {
+                line.put(*b" W ", 3);
+                Self::number(line, u16::from(tail - BLOCKED));
+                line.put([b'\n'], 1);
+            }
             no => line.put([b' ', b'R', b' ', b'0' + no / 10, b'0' + no % 10, b'\n'], 6),
         }
     }

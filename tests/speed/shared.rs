@@ -20,6 +20,8 @@ pub trait Way {
     fn take(&mut self, site: usize, level: u8, limit: &mut u8);
     /// One call less; the limit rises only where it was at this level or below.
     fn give(&mut self, site: usize, level: u8, limit: &mut u8, threads: u8);
+    /// The highest level up to this one without room; there is one.
+    fn blocking(&self, site: usize, level: u8) -> u8;
     /// The room at a level below T.
     fn room(&self, site: usize, level: u8) -> u8;
     /// The place of a ticket, which is not 0.
@@ -334,7 +336,7 @@ impl<W: Way> Net<W> {
         }
         self.ranks[at] = rank;
         self.waiting[site] += 1;
-        WAITS
+        BLOCKED + self.rooms.blocking(site, level)
     }
 
     /// The ticket admitted or 0, or a refusal.
@@ -388,6 +390,19 @@ impl<W: Way> Net<W> {
         self.tickets[at & 255]
     }
 
+    /// A call that waits leaves, and nobody is admitted: 0, or a refusal.
+    #[inline(always)]
+    fn take_back(&mut self, ticket: u16) -> Result<u16, Tail> {
+        let Some((at, rank)) = self.look_up(ticket) else { return Err(27) };
+        if rank >= ACTIVE {
+            return Err(34);
+        }
+        let (site, _) = self.place(rank);
+        self.close(at);
+        self.waiting[site] -= 1;
+        Ok(0)
+    }
+
     #[inline(always)]
     fn ask(&self, ticket: u16) -> Tail {
         match self.look_up(ticket) {
@@ -408,12 +423,13 @@ impl<W: Way> Net<W> {
 
 // The text.
 
-/// How a line ends: a letter, or `R` and this number.
+/// How a line ends: a letter, `R` and this number, or from BLOCKED on `W` and a level.
 pub type Tail = u8;
 pub const GRANTED: Tail = 0;
 pub const WAITS: Tail = 1;
 pub const IS_ACTIVE: Tail = 2;
 pub const ABSENT: Tail = 3;
+pub const BLOCKED: Tail = 64;
 
 /// A line in the making. No line has more than 20 bytes, so that the cuts to 31 change nothing.
 pub struct Line<'a> {
@@ -482,6 +498,12 @@ fn command<W: Way>(net: &mut Net<W>, word: u64, line: &mut Line) -> usize {
             answer::<W>(line, net.room((first >> 8) as u8, first as u8));
             3
         }
+        0x15 => {
+            line.put([b'X', b' '], 2);
+            W::number(line, first);
+            answer::<W>(line, net.take_back(first));
+            3
+        }
         _ => 0,
     }
 }
@@ -523,7 +545,7 @@ impl Source {
         let length = match self.bytes[self.at] {
             0x10 => 4,
             0x11 => 6,
-            0x12..=0x14 => 3,
+            0x12..=0x15 => 3,
             _ => 1,
         };
         self.end - self.at < length

@@ -43,7 +43,8 @@ fn command(net: &mut Net, kind: u8, b: &[u8], wrong: Wrong) -> (String, bool) {
     };
     let tail = match answer {
         Answer::Active => "G".to_string(),
-        Answer::Waiting => "W".to_string(),
+        Answer::Waiting(_) if wrong == Wrong::BlockUntold => "W".to_string(),
+        Answer::Waiting(level) => format!("W {level}"),
         Answer::Refused(no) => format!("R {no}"),
         Answer::Served(ticket) => ticket.to_string(),
         Answer::TakenBack => "0".to_string(),

@@ -106,6 +106,7 @@ fn shows(line: &str) -> String {
         "X" if words[1] == "0" => words.join(" "),
         "X" => format!("X {}", words[2..].join(" ")),
         _ if words[words.len() - 2] == "R" => format!("R {last}"),
+        "S" | "C" if words[words.len() - 2] == "W" => "W".to_string(),
         "S" | "C" => last.to_string(),
         "E" if last != "0" => "E admitted".to_string(),
         "E" => "E 0".to_string(),

@@ -31,7 +31,8 @@ pub struct Net {
 #[derive(Clone, Copy, PartialEq, Debug)]
 pub enum Answer {
     Active,
-    Waiting,
+    /// the level in the way
+    Waiting(u8),
     Refused(u8),
     /// the ticket admitted by a return, or 0
     Served(u16),
@@ -76,6 +77,20 @@ fn admissible(threads: u8, counts: &[i64], level: u8, wrong: Wrong) -> bool {
     }
 }
 
+/// 02, 1/14: "for a level that may not be admitted, the highest full level at or below it". 0 where a wrong rule holds a
+/// call back and no level is full.
+fn in_the_way(threads: u8, counts: &[i64], level: u8, wrong: Wrong) -> u8 {
+    let full = |k: &u8| at_or_above(counts, usize::from(*k)) == i64::from(threads) - i64::from(*k);
+    let found = match wrong {
+        Wrong::BlockLowest => (0..=level).find(full),
+        Wrong::BlockBelow => (0..level).rev().find(full),
+        Wrong::BlockAnywhere => (0..threads).rev().find(full),
+        Wrong::BlockOwn => Some(level),
+        _ => (0..=level).rev().find(full),
+    };
+    found.unwrap_or(0)
+}
+
 impl Net {
     pub fn new(plan: Plan, wrong: Wrong) -> Net {
         Net { plan, calls: Vec::new(), clock: 0, balance: [0; 256], ghosts: Vec::new(), lost: 0, wrong }
@@ -104,6 +119,10 @@ impl Net {
     pub fn may_admit(&self, site: u8, level: u8) -> bool {
         let threads = self.plan.threads(site).unwrap_or(0);
         admissible(threads, &self.counts(site), level, self.wrong)
+    }
+
+    fn blocked_by(&self, site: u8, level: u8) -> u8 {
+        in_the_way(self.plan.threads(site).unwrap_or(0), &self.counts(site), level, self.wrong)
     }
 
     pub fn has_child(&self, ticket: u16) -> bool {
@@ -152,6 +171,7 @@ impl Net {
         let (site, level) = self.plan.node(node).unwrap_or((0, 0));
         let queued = self.wrong == Wrong::NoPassing && !self.waiting(site).is_empty();
         let active = self.may_admit(site, level) && !queued;
+        let blocked_by = self.blocked_by(site, level);
         let since = self.clock;
         self.clock += 1;
         self.calls.push(Call { ticket, node, parent, active, since });
@@ -159,7 +179,7 @@ impl Net {
             self.balance[site as usize] += 1;
             return Answer::Active;
         }
-        Answer::Waiting
+        Answer::Waiting(blocked_by)
     }
 
     /// "Return: the ticket's call ends and its thread comes back."
@@ -267,13 +287,14 @@ impl Net {
         ticket
     }
 
-    /// "a question `A`, `W` or `N` (not open)"
+    /// "a question `A`, `W` or `N` (not open)"; its `W` has no level.
     pub fn ask(&self, ticket: u16) -> Answer {
-        Answer::Asked(match self.find(ticket) {
-            None => 'N',
-            Some(c) if c.active => 'A',
-            Some(_) => 'W',
-        })
+        match self.find(ticket) {
+            None => Answer::Asked('N'),
+            Some(c) if c.active => Answer::Asked('A'),
+            Some(c) if self.wrong == Wrong::AskBlock => Answer::Waiting(self.blocked_by(self.place(c).0, self.place(c).1)),
+            Some(_) => Answer::Asked('W'),
+        }
     }
 
     /// "The room at level k is T - k - A[k]"; 30: "an unlisted site, or a level not below its threads".

@@ -94,11 +94,23 @@ pub enum Wrong {
     BackStillChild,
     /// The place of a call that was taken back is not used again.
     BackKeepsPlace,
+    /// A call that waits is told the lowest full level.
+    BlockLowest,
+    /// A call that waits is told the highest full level below its own.
+    BlockBelow,
+    /// A call that waits is told the highest full level of all.
+    BlockAnywhere,
+    /// A call that waits is told its own level.
+    BlockOwn,
+    /// A call that waits is told no level.
+    BlockUntold,
+    /// A question's `W` has the level too.
+    AskBlock,
     /// `number` is tested just before `before`, and no longer in its place.
     Early(List, u8, u8),
 }
 
-pub const ALL: [(&str, Wrong); 60] = [
+pub const ALL: [(&str, Wrong); 66] = [
     ("bad-p", Wrong::BadP),
     ("first-waiter", Wrong::FirstWaiter),
     ("strict-levels", Wrong::StrictLevels),
@@ -139,6 +151,12 @@ pub const ALL: [(&str, Wrong); 60] = [
     ("back-last-moves", Wrong::BackLastMoves),
     ("back-still-child", Wrong::BackStillChild),
     ("back-keeps-place", Wrong::BackKeepsPlace),
+    ("block-lowest", Wrong::BlockLowest),
+    ("block-below", Wrong::BlockBelow),
+    ("block-anywhere", Wrong::BlockAnywhere),
+    ("block-own", Wrong::BlockOwn),
+    ("block-untold", Wrong::BlockUntold),
+    ("ask-block", Wrong::AskBlock),
     ("record-1-2", Wrong::Early(List::Record, 1, 2)),
     ("record-3-1", Wrong::Early(List::Record, 3, 1)),
     ("record-4-3", Wrong::Early(List::Record, 4, 3)),

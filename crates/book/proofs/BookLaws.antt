@@ -2,14 +2,14 @@
 -- the walk ends at the limit, below which lie the levels that may be admitted. Assumes nothing.
 use Prim.Native.Nat.{ℕ, suc, _-_, _≤_, _<_}
 use native.Mathlib.Omega.{arith}
-use borrow.Author.Tests.{le-leb, lt-leb, eq-eqb}
+use borrow.Author.Tests.{lt-ltb, le-ltb, le-leb, lt-leb, eq-eqb}
 use mathlib.Core.Path.{_≡_, refl, sym, ap, ap₂, _∙_}
 use mathlib.Core.Bool.{Bool, true, false, cond}
 use mathlib.Core.List.{List, [], _∷_}
 use lib.Dec.{ltb, eqb}
 use lib.ListN.{length}
 use Rattle.ids.specs.Limits.{most-threads}
-use Rattle.model.specs.Site.{A, refuses-site, limit, may-admit, room}
+use Rattle.model.specs.Site.{A, refuses-site, limit, may-admit, blocking, room}
 use Rattle.model.specs.Tree.{from-root}
 use Rattle.model.specs.Answers.{site-refusal, level-refusal, level-answer, admission-answer, room-answer, firmware}
 use Rattle.model.specs.declared.Walked.{Walked}
@@ -18,6 +18,7 @@ use Rattle.model.proofs.TreeLaws.{from-root-is}
 use Rattle.model.proofs.RuleLaws.{admits-below}
 use Rattle.tree.specs.Descent.{descent}
 use Rattle.tree.specs.declared.Descent.{Descent}
+use Rattle.book.specs.Asked.{Asked}
 
 -- what an answer of the walk says of the test that it was picked by
 picked-refused : (b : Bool) (w : Walked) → Descent.Refused ≡ cond b Descent.Refused (Descent.Ended w) → b ≡ true
@@ -80,13 +81,21 @@ module _ (T : ℕ) (a : List ℕ) where
     unfolding admission-answer
     admission-beyond i h = rw (told .0, le-leb T i h)
 
-    -- a level is admitted where it lies below the walk's end
-    pub admission-below : (i : ℕ) (b : Bool) → i < T → ltb i (w .leaf) ≡ b → 0 ∷ cond b 1 0 ∷ [] ≡ admission-answer T a i
-    unfolding admission-answer
-    admission-below i b h t =
-        let m : b ≡ may-admit T a i
-        = sym t ∙ ap (ltb i) ends ∙ sym (admits-below T a i (omega (arith, site .most, site .long)) (site .law)) in
-        rw (told .0, lt-leb T i h) (ap (λ (d : Bool). 0 ∷ cond d 1 0 ∷ []) m)
+    -- a level is admitted where it lies below the walk's end, and from there on it waits
+    module _ (i : ℕ) (h : i < T) where
+      admits : may-admit T a i ≡ ltb i (w .leaf)
+      admits = admits-below T a i (omega (arith, site .most, site .long)) (site .law) ∙ ap (ltb i) (sym ends)
+
+      pub admission-below : i < w .leaf → 0 ∷ 1 ∷ [] ≡ admission-answer T a i
+      unfolding admission-answer
+      admission-below p = rw (told .0, lt-leb T i h, admits, lt-ltb i (w .leaf) p)
+
+      pub admission-waits : w .leaf ≤ i → (k : ℕ) → k ≡ blocking T a i → 0 ∷ 0 ∷ k ∷ [] ≡ admission-answer T a i
+      unfolding admission-answer
+      admission-waits p k e = rw (told .0, lt-leb T i h, admits, le-ltb i (w .leaf) p) (ap (λ (l : ℕ). 0 ∷ 0 ∷ l ∷ []) e)
+
+      pub asked : Asked T a i
+      asked = record { taken = told .0; below = h }
 
     pub room-beyond : (k : ℕ) → T ≤ k → level-refusal ≡ room-answer T a k
     unfolding room-answer

@@ -1,1 +1,2 @@
+mod DownLaws
 mod BookLaws

@@ -1,6 +1,8 @@
 // The site book: which levels may be admitted at a site with some threads and some active calls. Every function takes the thread count and the
 // 64 counts of active calls by level, and answers a refusal where they are not those of a lawful site.
 ghost use mathlib.Core.Path.{_≡_};
+ghost use Rattle.model.specs.Site.{blocking};
+ghost use Rattle.book.specs.Asked.{Asked};
 ghost use Rattle.model.specs.Answers.{toldLevel, toldAdmission, toldRoom, level-answer, admission-answer, room-answer, firmware};
 use ids::Level;
 use model::AdmissionAnswer;
@@ -25,7 +27,24 @@ pub fn level(threads: u8, counts: &[u8]) -> LevelAnswer
     LevelAnswer::Highest(Level(walked.leaf - 1), walked.stood)
 }
 
-// Whether a call of a level may be admitted.
+// The highest full level at or below one that may not be admitted. The levels are read downwards from it, with the calls at or above each.
+fn blocking(threads: u8, counts: &[u8], asked: u8) -> u8
+    requires { ⌜ Asked threads (now counts) asked ⌝ }
+    ensures { λ r. ⌜ r ≡ blocking threads (now (counts .entry)) asked ⌝ }
+{
+    let mut active = tree::calls_from(asked as usize, counts);
+    let mut k = asked;
+    while 0 < k {
+        if active == (threads - k) as usize {
+            return k;
+        }
+        k -= 1;
+        active += counts[k as usize] as usize;
+    }
+    0
+}
+
+// Whether a call of a level may be admitted, and if not the level in the way.
 pub fn admission(threads: u8, counts: &[u8], asked: Level) -> AdmissionAnswer
     ensures { λ r. ⌜ toldAdmission r ≡ admission-answer threads (now (counts .entry)) (asked .0) ⌝ }
 {
@@ -39,7 +58,7 @@ pub fn admission(threads: u8, counts: &[u8], asked: Level) -> AdmissionAnswer
     if asked.0 < walked.leaf {
         return AdmissionAnswer::Admitted;
     }
-    AdmissionAnswer::Waits
+    AdmissionAnswer::Waits(Level(blocking(threads, counts, asked.0)))
 }
 
 // The status page's figure for a level.

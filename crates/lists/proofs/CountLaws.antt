@@ -1,14 +1,14 @@
 -- Laws of tests over the numbers below a bound, of the least number that passes one, and of sums: by induction over the bound or the list.
 -- Assumes nothing.
-use Prim.Native.Nat.{ℕ, zero, suc, _+_, _≤_, _<_, zero-le, suc-le-suc}
+use Prim.Native.Nat.{ℕ, zero, suc, _+_, _-_, _≤_, _<_, zero-le, suc-le-suc}
 use native.Mathlib.Nat.{not-suc-le-zero, le-of-suc-le-suc, eq-or-lt-of-le}
 use native.Mathlib.Omega.{arith}
-use mathlib.Core.Path.{_≡_, refl, sym, ap, subst, _∙_}
+use mathlib.Core.Path.{_≡_, refl, sym, ap, ap₂, subst, _∙_}
 use mathlib.Core.Logic.{_⊎_, inl, inr, ⊎-elim, _↔_}
 use mathlib.Core.Bool.{Bool, true, false, not, _&&_, _||_, cond}
 use mathlib.Core.List.{List, [], _∷_}
 use lib.ListN.{length, getD, drop, set}
-use Rattle.lists.specs.Count.{sum, every, first}
+use Rattle.lists.specs.Count.{sum, every, first, last}
 
 -- Cases
 pub lt-or-ge : (a b : ℕ) → (a < b) ⊎ (b ≤ a)
@@ -140,6 +140,65 @@ first-none n f none =
     (λ (p : first n f < n). absurd (never-both (first-holds n f p) (none (first n f) p)))
     (λ p. omega (arith, first-le n f))
     (lt-or-ge (first n f) n)
+
+-- The greatest number of which a test holds
+pub last-at : (n : ℕ) (f : ℕ → Bool) → f n ≡ true → last (suc n) f ≡ n
+unfolding last
+last-at n f e = rw e
+
+pub last-passed : (n : ℕ) (f : ℕ → Bool) → f n ≡ false → last (suc n) f ≡ last n f
+unfolding last
+last-passed n f e = rw e
+
+-- a search downwards has come to k: the greatest is the greatest up to there
+module _ (top : ℕ) (f : ℕ → Bool) (k : ℕ) (come : last top f ≡ last (suc k) f) where
+  pub last-here : f k ≡ true → k ≡ last top f
+  last-here e = sym (come ∙ last-at k f e)
+
+  pub last-lower : 0 < k → f k ≡ false → last top f ≡ last (suc (k - 1)) f
+  last-lower h e = let q : suc (k - 1) ≡ k = omega arith in come ∙ last-passed k f e ∙ ap (λ (n : ℕ). last n f) (sym q)
+
+  pub last-bottom : k ≤ 0 → 0 ≡ last top f
+  unfolding last
+  last-bottom h = let q : k ≡ 0 = omega arith in sym (come ∙ ap (λ (n : ℕ). last (suc n) f) q ∙ go (f 0))
+    where
+      go : (b : Bool) → _≡_ {A = ℕ} (cond b 0 0) 0
+      go true = refl
+      go false = refl
+
+-- two tests that agree below a bound have the same greatest
+pub last-same : (n : ℕ) (f g : ℕ → Bool) → ((k : ℕ) → k < n → f k ≡ g k) → last n f ≡ last n g
+unfolding last
+last-same zero f g same = refl
+last-same (suc n) f g same = ap₂ (λ (b : Bool) (m : ℕ). cond b n m) (same n (omega arith)) (last-same n f g (λ k h. same k (omega arith)))
+
+-- a number that passes, with none above it that does, is the greatest
+pub last-is : (n : ℕ) (f : ℕ → Bool) (k : ℕ) → k < n → f k ≡ true → ((j : ℕ) → k < j → j < n → f j ≡ false) → last n f ≡ k
+last-is zero f k l t above = absurd (not-suc-le-zero l)
+last-is (suc n) f k l t above =
+    ⊎-elim
+    (λ (e : k ≡ n). subst (λ (m : ℕ). last (suc n) f ≡ m) (sym e) (last-at n f (subst (λ (m : ℕ). f m ≡ true) e t)))
+    (λ (p : k < n). last-passed n f (above n p (omega arith)) ∙ last-is n f k p t (λ j h q. above j h (omega arith)))
+    (eq-or-lt-of-le (le-of-suc-le-suc l))
+
+-- where some number passes, so does the greatest, and none above it
+abbrev Greatest : (ℕ → Bool) → ℕ → ℕ → Type 0
+Greatest f n m = (f m ≡ true) × (m < n) × ((j : ℕ) → m < j → j < n → f j ≡ false)
+
+pub last-holds : (n : ℕ) (f : ℕ → Bool) (k : ℕ) → k < n → f k ≡ true → Greatest f n (last n f)
+last-holds zero f k l t = absurd (not-suc-le-zero l)
+last-holds (suc n) f k l t = go (f n) refl (λ p. last-holds n f k p t)
+  where
+    go : (b : Bool) → f n ≡ b → (k < n → Greatest f n (last n f)) → Greatest f (suc n) (last (suc n) f)
+    go true e lower = subst (Greatest f (suc n)) (sym (last-at n f e)) (e, omega arith, λ j h q. absurd (omega arith))
+    go false e lower =
+        let apart : k ≡ n → ⊥ = λ q. never-both t (subst (λ (m : ℕ). f m ≡ false) (sym q) e) in
+        let w = lower (omega (arith, apart)) in
+        subst (Greatest f (suc n)) (sym (last-passed n f e)) (
+          w .0,
+          omega (arith, w .1),
+          λ j h q. ⊎-elim (λ (r : j ≡ n). subst (λ (m : ℕ). f m ≡ false) (sym r) e) (λ (r : j < n). w .2 j h r) (eq-or-lt-of-le (le-of-suc-le-suc q)),
+        )
 
 -- Sums of what is left of a list
 pub sum-drop-step : (a : List ℕ) (k : ℕ) → sum (drop k a) ≡ getD a k 0 + sum (drop (suc k) a)

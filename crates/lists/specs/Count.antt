@@ -18,6 +18,11 @@ unfoldable pub first : ℕ → (ℕ → Bool) → ℕ
 first zero f = 0
 first (suc n) f = cond (f 0) 0 (suc (first n (λ k. f (suc k))))
 
+-- the greatest number below n of which the test holds, or 0 where there is none
+unfoldable pub last : ℕ → (ℕ → Bool) → ℕ
+last zero f = 0
+last (suc n) f = cond (f n) n (last n f)
+
 -- the test holds of some number below n
 unfoldable pub some : ℕ → (ℕ → Bool) → Bool
 some zero f = false

@@ -8,7 +8,7 @@ use mathlib.Core.Bool.{Bool, true, false, cond}
 use mathlib.Core.List.{[], _∷_, List·Memᴰ}
 use borrow.Author.Tests.{lt-ltb, le-ltb, lt-leb, le-leb, ne-eqb}
 use Rattle.lists.proofs.CountLaws.{lt-or-ge}
-use Rattle.model.specs.Site.{refuses-site, may-admit}
+use Rattle.model.specs.Site.{refuses-site, may-admit, blocking}
 use Rattle.model.specs.Answers.{site-refusal, level-refusal, admission-answer, room-answer, firmware}
 use Rattle.model.specs.Plan.{site, threads, six}
 use Rattle.model.specs.Net.{Core, has-node, site-of, level-of, limit-at}
@@ -81,7 +81,7 @@ module _ (net : Core) where
       unfolding limit-at firmware
       limit-agrees = rw (its-threads, never-255) refl
 
-    -- a start or a call that is accepted is told what the site book tells of its level: 1 where it is admitted, 0 where it waits
+    -- a start or a call that is accepted is told what the site book tells of its level: 1 where it is admitted, 0 and the level in the way where it waits
     pub opening-agrees : (command : Command) (parent ticket node : ℕ) → OpensCall command parent ticket node → fault net command ≡ 0
         → told (step net command .answer)
         ≡ admission-answer (threads (net .plan) (site-of (net .plan) node)) (own-book net (site-of (net .plan) node)) (level-of (net .plan) node)
@@ -97,6 +97,9 @@ module _ (net : Core) where
         below : level-of (net .plan) node < threads (net .plan) here
         below = level-below-threads (net .plan) (keeps .plan-passes) node (opened-known command parent ticket node opens e)
 
-        go : (b : Bool) → told (cond b active waiting) ≡ 0 ∷ cond b 1 0 ∷ []
+        in-the-way : ℕ
+        in-the-way = blocking (threads (net .plan) here) (own-book net here) (level-of (net .plan) node)
+
+        go : (b : Bool) → told (cond b active (waiting in-the-way)) ≡ 0 ∷ cond b (1 ∷ []) (0 ∷ in-the-way ∷ [])
         go true = refl
         go false = refl

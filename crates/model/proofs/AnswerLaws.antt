@@ -27,13 +27,14 @@ level-injective LevelAnswer.Refused LevelAnswer.Refused e = refl
 
 pub admission-injective : (x y : AdmissionAnswer) → toldAdmission x ≡ toldAdmission y → x ≡ y
 admission-injective AdmissionAnswer.Admitted AdmissionAnswer.Admitted e = refl
-admission-injective AdmissionAnswer.Admitted AdmissionAnswer.Waits e = let z : _≡_ {A = ℕ} 1 0 = cc in absurd (omega arith)
+admission-injective AdmissionAnswer.Admitted (AdmissionAnswer.Waits l) e = let z : _≡_ {A = ℕ} 1 0 = cc in absurd (omega arith)
 admission-injective AdmissionAnswer.Admitted AdmissionAnswer.Refused e = cc
-admission-injective AdmissionAnswer.Waits AdmissionAnswer.Admitted e = let z : _≡_ {A = ℕ} 0 1 = cc in absurd (omega arith)
-admission-injective AdmissionAnswer.Waits AdmissionAnswer.Waits e = refl
-admission-injective AdmissionAnswer.Waits AdmissionAnswer.Refused e = cc
+admission-injective (AdmissionAnswer.Waits k) AdmissionAnswer.Admitted e = let z : _≡_ {A = ℕ} 0 1 = cc in absurd (omega arith)
+admission-injective (AdmissionAnswer.Waits k) (AdmissionAnswer.Waits l) e =
+    let q : k .0 ≡ l .0 = cc in ap (λ (n : ℕ). AdmissionAnswer.Waits (record { 0 = n })) q
+admission-injective (AdmissionAnswer.Waits k) AdmissionAnswer.Refused e = cc
 admission-injective AdmissionAnswer.Refused AdmissionAnswer.Admitted e = cc
-admission-injective AdmissionAnswer.Refused AdmissionAnswer.Waits e = cc
+admission-injective AdmissionAnswer.Refused (AdmissionAnswer.Waits l) e = cc
 admission-injective AdmissionAnswer.Refused AdmissionAnswer.Refused e = refl
 
 pub room-injective : (x y : RoomAnswer) → toldRoom x ≡ toldRoom y → x ≡ y
@@ -50,19 +51,19 @@ room-injective RoomAnswer.Refused RoomAnswer.Refused e = refl
 pub told-injective : (x y : Answer) → told x ≡ told y → x ≡ y
 told-injective (refused n) (refused m) e = let q : n ≡ m = cc in ap refused q
 told-injective (refused n) active e = cc
-told-injective (refused n) waiting e = cc
+told-injective (refused n) (waiting l) e = cc
 told-injective (refused n) (ended u) e = cc
 told-injective active (refused m) e = cc
 told-injective active active e = refl
-told-injective active waiting e = let z : _≡_ {A = ℕ} 1 0 = cc in absurd (omega arith)
+told-injective active (waiting l) e = let z : _≡_ {A = ℕ} 1 0 = cc in absurd (omega arith)
 told-injective active (ended u) e = cc
-told-injective waiting (refused m) e = cc
-told-injective waiting active e = let z : _≡_ {A = ℕ} 0 1 = cc in absurd (omega arith)
-told-injective waiting waiting e = refl
-told-injective waiting (ended u) e = cc
+told-injective (waiting k) (refused m) e = cc
+told-injective (waiting k) active e = let z : _≡_ {A = ℕ} 0 1 = cc in absurd (omega arith)
+told-injective (waiting k) (waiting l) e = let q : k ≡ l = cc in ap waiting q
+told-injective (waiting k) (ended u) e = let z : _≡_ {A = ℕ} 0 2 = cc in absurd (omega arith)
 told-injective (ended t) (refused m) e = cc
 told-injective (ended t) active e = cc
-told-injective (ended t) waiting e = cc
+told-injective (ended t) (waiting l) e = let z : _≡_ {A = ℕ} 2 0 = cc in absurd (omega arith)
 told-injective (ended t) (ended u) e = let q : t ≡ u = cc in ap ended q
 
 pub standing-injective : (x y : Standing) → told-standing x ≡ told-standing y → x ≡ y

@@ -11,7 +11,7 @@ use Rattle.lists.specs.Pick.{count}
 use Rattle.model.specs.Plan.{threads}
 use Rattle.model.specs.Reading.{PlanOk}
 use Rattle.model.specs.PlanValue.{reading-plan}
-use Rattle.model.specs.Net.{Call, Core, empty-net, site-of, lookup, node-of, ticket-of, at-or-above, counts, admissible, opened, closed, to-wake}
+use Rattle.model.specs.Net.{Call, Core, empty-net, site-of, lookup, node-of, ticket-of, at-or-above, counts, admissible, in-the-way, opened, closed, to-wake}
 use Rattle.model.specs.Command.{Command, start, call, return, take-back, ended, fault, Outcome, opening, serving, withdrawing, done, step, run}
 use Rattle.model.specs.NetRules.{Keeps}
 use Rattle.model.specs.Demands.{Demand-1, OpensCall, by-start, by-call, Demand-2, Safe, Demand-3, Drains}
@@ -55,7 +55,7 @@ return-step net ticket gone found e =
     ∙ ap (λ (o : Option Call). serving (net .plan) (closed (net .calls) ticket) (site-of (net .plan) (node-of o))) found
 
 pub demand-2 : Demand-2
-unfolding opening opened serving withdrawing admissible
+unfolding opening opened serving withdrawing admissible in-the-way
 demand-2 =
     record {
       plans = accepted-exactly;

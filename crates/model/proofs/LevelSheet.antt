@@ -8,34 +8,34 @@ use lib.Dec.{eqb}
 use borrow.Author.Tests.{eqb-true}
 use Rattle.lists.proofs.CountLaws.{never-both, and-left, and-right}
 use Rattle.ids.specs.Made.{Told}
-use Rattle.lists.specs.Count.{first}
-use Rattle.model.specs.Site.{A, lawful, raised, may-admit, full, limit, refuses-site}
+use Rattle.lists.specs.Count.{first, last}
+use Rattle.model.specs.Site.{A, lawful, raised, may-admit, full, limit, blocking, refuses-site}
 use Rattle.model.specs.Answers.{firmware, admission-answer}
-use Rattle.model.specs.LevelSheet.{Case, site, call, plan, counts-of, Holds, table}
+use Rattle.model.specs.LevelSheet.{Case, site, waits, plan, counts-of, Holds, table}
 use Rattle.model.specs.House.{next}
 use Rattle.model.specs.Plan.{threads, place, has-edge, edges, follows, in-range, known, level-below}
 use Rattle.model.specs.Plan.{room-for, record-fault, site-steps, listed, closed-backwards, loops, self-depends, end-fault, bytes-of}
 use Rattle.model.specs.Reading.{read, read-on}
 use Rattle.model.specs.PlanValue.{reading-told}
 
-told-is : Told → ℕ → ℕ → Bool
-told-is [] n p = false
-told-is (a ∷ []) n p = false
-told-is (a ∷ b ∷ []) n p = eqb a n && eqb b p
-told-is (a ∷ b ∷ c ∷ r) n p = false
+told-is : Told → Told → Bool
+told-is [] [] = true
+told-is [] (n ∷ ns) = false
+told-is (b ∷ bs) [] = false
+told-is (b ∷ bs) (n ∷ ns) = eqb b n && told-is bs ns
 
-told-exactly : (t : Told) (n p : ℕ) → told-is t n p ≡ true → t ≡ n ∷ p ∷ []
+told-exactly : (bs ns : Told) → told-is bs ns ≡ true → bs ≡ ns
 unfolding told-is
-told-exactly [] n p e = absurd (never-both e refl)
-told-exactly (a ∷ []) n p e = absurd (never-both e refl)
-told-exactly (a ∷ b ∷ []) n p e =
-    ap₂ (λ (x y : ℕ). x ∷ y ∷ []) (eqb-true a n (and-left (eqb a n) (eqb b p) e)) (eqb-true b p (and-right (eqb a n) (eqb b p) e))
-told-exactly (a ∷ b ∷ c ∷ r) n p e = absurd (never-both e refl)
+told-exactly [] [] e = refl
+told-exactly [] (n ∷ ns) e = absurd (never-both e refl)
+told-exactly (b ∷ bs) [] e = absurd (never-both e refl)
+told-exactly (b ∷ bs) (n ∷ ns) e =
+    ap₂ (λ (x : ℕ) (xs : Told). x ∷ xs) (eqb-true b n (and-left (eqb b n) (told-is bs ns) e)) (told-exactly bs ns (and-right (eqb b n) (told-is bs ns) e))
 
 test : Case → Bool
 test (site threads active number) = eqb (firmware threads (counts-of active)) number
-test (call threads active asked admitted) = told-is (admission-answer threads (counts-of active) asked) 0 admitted
-test (plan bytes number place) = told-is (reading-told (read bytes)) number place
+test (waits threads active asked blocked-by) = told-is (admission-answer threads (counts-of active) asked) (0 ∷ 0 ∷ blocked-by ∷ [])
+test (plan bytes number place) = told-is (reading-told (read bytes)) (number ∷ place ∷ [])
 
 tests : List Case → Bool
 tests [] = true
@@ -49,8 +49,8 @@ All (c ∷ cs) = Holds c × All cs
 passes : (c : Case) → test c ≡ true → Holds c
 unfolding test
 passes (site threads active number) e = eqb-true (firmware threads (counts-of active)) number e
-passes (call threads active asked admitted) e = told-exactly (admission-answer threads (counts-of active) asked) 0 admitted e
-passes (plan bytes number place) e = told-exactly (reading-told (read bytes)) number place e
+passes (waits threads active asked blocked-by) e = told-exactly (admission-answer threads (counts-of active) asked) (0 ∷ 0 ∷ blocked-by ∷ []) e
+passes (plan bytes number place) e = told-exactly (reading-told (read bytes)) (number ∷ place ∷ []) e
 
 all-pass : (cs : List Case) → tests cs ≡ true → All cs
 unfolding tests
@@ -58,7 +58,7 @@ all-pass [] e = tt
 all-pass (c ∷ cs) e = (passes c (and-left (test c) (tests cs) e), all-pass cs (and-right (test c) (tests cs) e))
 
 computed : tests table ≡ true
-unfolding first tests test told-is firmware admission-answer may-admit refuses-site limit lawful full A raised read read-on next
+unfolding first last tests test told-is firmware admission-answer may-admit blocking refuses-site limit lawful full A raised read read-on next
     threads place has-edge edges follows in-range known level-below room-for record-fault site-steps listed
     closed-backwards loops self-depends end-fault bytes-of
 computed = refl

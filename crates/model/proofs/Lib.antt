@@ -1,5 +1,6 @@
 pub mod SiteLaws
 pub mod RuleLaws
+pub mod BlockingLaws
 pub mod PaperLaws
 pub mod TreeLaws
 pub mod AnswerLaws

@@ -17,8 +17,8 @@ use Rattle.lists.proofs.CountLaws.{true-or-false, never-both, and-left, and-rig
 use Rattle.lists.proofs.PickLaws.{count-all, count-none, count-some, some-counted, count-more, count-without, count-changed, changed-none, found-in}
 use Rattle.lists.proofs.PickLaws.{found-none, found-alike, only-one}
 use Rattle.model.specs.Plan.{Record, threads, six, passes}
-use Rattle.model.specs.Site.{may-admit, room}
-use Rattle.model.specs.Net.{Call, Core, site-of, level-of, has, lookup, ticket-of, has-child, counts, waiting-order, admissible, newcomer}
+use Rattle.model.specs.Site.{may-admit, blocking, room}
+use Rattle.model.specs.Net.{Call, Core, site-of, level-of, has, lookup, ticket-of, has-child, counts, waiting-order, admissible, in-the-way, newcomer}
 use Rattle.model.specs.Net.{opened, closed, may-wake, to-wake, activated, woken}
 use Rattle.model.specs.Command.{Command, start, call, return, take-back, refused, active, waiting, ended, fault, opening, serving, withdrawing, done, step, run, ask}
 use Rattle.model.specs.Command.{standing, has-room, room-refused, room-at}
@@ -95,6 +95,10 @@ module _ (rs : List Record) (cs ds : List Call) (alike : Alike cs ds) (orders : 
     admissible-same : (n : ℕ) → admissible rs cs n ≡ admissible rs ds n
     unfolding admissible
     admissible-same n = ap (λ (a : List ℕ). may-admit (threads rs (site-of rs n)) a (level-of rs n)) (counts-same (site-of rs n))
+
+    in-the-way-same : (n : ℕ) → in-the-way rs cs n ≡ in-the-way rs ds n
+    unfolding in-the-way
+    in-the-way-same n = ap (λ (a : List ℕ). blocking (threads rs (site-of rs n)) a (level-of rs n)) (counts-same (site-of rs n))
 
     to-wake-same : (s : ℕ) → to-wake rs cs s ≡ to-wake rs ds s
     to-wake-same s =
@@ -242,7 +246,8 @@ module _ (rs : List Record) (cs ds : List Call) (k : Keeps (net-of rs cs)) (l : 
       × Same (opening rs cs parent ticket node .core) (opening rs ds parent ticket node .core)
   unfolding opening
   opened-same parent ticket node = (
-    ap (λ (b : Bool). cond b active waiting) (admissible-same rs cs ds alike orders (k .plan-passes) node),
+    ap₂ (λ (b : Bool) (l : ℕ). cond b active (waiting l)) (admissible-same rs cs ds alike orders (k .plan-passes) node)
+        (in-the-way-same rs cs ds alike orders (k .plan-passes) node),
     record {
       plans = refl;
       calls = opened-alike rs cs ds alike orders (k .plan-passes) parent ticket node;

@@ -17,7 +17,7 @@ use Rattle.lists.proofs.CountLaws.{true-or-false}
 use Rattle.lists.proofs.PickLaws.{count-more, count-without, count-changed, changed-none, in-without, length-without, length-changed}
 use Rattle.model.specs.Plan.{Record, six, passes}
 use Rattle.model.specs.Reading.{PlanOk}
-use Rattle.model.specs.Net.{Call, Core, empty-net, site-of, has, lookup, node-of, ticket-of, is-on, active-on, admissible, newcomer, opened}
+use Rattle.model.specs.Net.{Call, Core, empty-net, site-of, has, lookup, node-of, ticket-of, is-on, active-on, admissible, in-the-way, newcomer, opened}
 use Rattle.model.specs.Net.{closed, may-wake, to-wake, activated, woken}
 use Rattle.model.specs.Command.{Command, start, call, return, take-back, Answer, refused, active, waiting, fault, Outcome, opening, serving}
 use Rattle.model.specs.Command.{withdrawing, done, step, run}
@@ -51,9 +51,12 @@ opening-balanced rs cs s parent ticket node c no-return =
     no-thread : (a : Answer) → one (here && returns c a) ≡ 0
     no-thread a = ap (λ (b : Bool). one (here && b)) (no-return a) ∙ never here
 
-    go : (b : Bool) → one (here && admits c (cond b active waiting)) ≡ one (here && b) + one (here && returns c (cond b active waiting))
+    waits : Answer
+    waits = waiting (in-the-way rs cs node)
+
+    go : (b : Bool) → one (here && admits c (cond b active waits)) ≡ one (here && b) + one (here && returns c (cond b active waits))
     go true = omega (arith, no-thread active)
-    go false = omega (arith, never here, no-thread waiting)
+    go false = omega (arith, never here, no-thread waits)
 
 module _ (net : Core) (k : Keeps net) (ticket : ℕ) (gone : Call) (end : Ending (net .calls) ticket gone) (s : ℕ) where
   abbrev rs : List Record

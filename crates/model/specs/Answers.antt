@@ -5,7 +5,7 @@ use mathlib.Core.Bool.{_||_, cond}
 use mathlib.Core.List.{List, [], _∷_}
 use lib.Dec.{leb}
 use Rattle.ids.specs.Made.{Told}
-use Rattle.model.specs.Site.{refuses-site, limit, may-admit, room}
+use Rattle.model.specs.Site.{refuses-site, limit, may-admit, blocking, room}
 use Rattle.model.specs.Tree.{from-root}
 use Rattle.model.specs.declared.LevelAnswer.{LevelAnswer}
 use Rattle.model.specs.declared.AdmissionAnswer.{AdmissionAnswer}
@@ -25,10 +25,10 @@ toldLevel (LevelAnswer.Highest level stood) = 0 ∷ suc (level .0) ∷ stood ∷
 toldLevel (LevelAnswer.NoLevel stood) = 0 ∷ 0 ∷ stood ∷ []
 toldLevel LevelAnswer.Refused = site-refusal
 
--- 1 where the level may be admitted and 0 where it waits
+-- 1 where the level may be admitted; 0 and the level in the way where it waits
 abbrev pub toldAdmission : AdmissionAnswer → Told
 toldAdmission AdmissionAnswer.Admitted = 0 ∷ 1 ∷ []
-toldAdmission AdmissionAnswer.Waits = 0 ∷ 0 ∷ []
+toldAdmission (AdmissionAnswer.Waits level) = 0 ∷ 0 ∷ level .0 ∷ []
 toldAdmission AdmissionAnswer.Refused = site-refusal
 
 abbrev pub toldRoom : RoomAnswer → Told
@@ -40,9 +40,11 @@ toldRoom RoomAnswer.Refused = site-refusal
 unfoldable pub level-answer : ℕ → List ℕ → Told
 level-answer T a = cond (refuses-site T a) site-refusal (0 ∷ limit T a ∷ from-root T a .stood ∷ [])
 
--- "for admission also when i is not below T"
+-- "for admission also when i is not below T"; 02, 1/14: "The admission answer shall name, for a level that may not be admitted, the highest full level at or
+-- below it"
 unfoldable pub admission-answer : ℕ → List ℕ → ℕ → Told
-admission-answer T a i = cond (refuses-site T a || leb T i) site-refusal (0 ∷ cond (may-admit T a i) 1 0 ∷ [])
+admission-answer T a i =
+    cond (refuses-site T a || leb T i) site-refusal (0 ∷ cond (may-admit T a i) (1 ∷ []) (0 ∷ blocking T a i ∷ []))
 
 -- the site is looked at first
 unfoldable pub room-answer : ℕ → List ℕ → ℕ → Told

@@ -10,7 +10,7 @@ use Rattle.ids.specs.Limits.{no-ticket, most-open}
 use Rattle.ids.specs.Made.{Told}
 use Rattle.model.specs.Site.{room}
 use Rattle.model.specs.Plan.{Record, threads, has-edge, first-fault}
-use Rattle.model.specs.Net.{Call, Core, has-node, site-of, lookup, is-open, is-active, node-of, ticket-of, has-child, counts, admissible}
+use Rattle.model.specs.Net.{Call, Core, has-node, site-of, lookup, is-open, is-active, node-of, ticket-of, has-child, counts, admissible, in-the-way}
 use Rattle.model.specs.Net.{opened, closed, to-wake, woken}
 
 pub data Command : Type 0 where
@@ -27,15 +27,17 @@ pub data Answer : Type 0 where
   -- the number of the table
   refused : ℕ → Answer
   active : Answer
-  waiting : Answer
+  -- the level that is in the way: 02, 1/14, "Starts and calls print it after W"
+  waiting : ℕ → Answer
   -- a return or a taking back: the ticket that was admitted, or 0
   ended : ℕ → Answer
 
--- an answer's number and its values, as everywhere: 0 where nothing is refused; then 1 for active, 0 for waiting, and 2 with its ticket for a return
+-- an answer's number and its values, as everywhere: 0 where nothing is refused; then 1 for active, 0 with the level in the way for waiting, and 2
+-- with its ticket for a return
 abbrev pub told : Answer → Told
 told (refused n) = n ∷ []
 told active = 0 ∷ 1 ∷ []
-told waiting = 0 ∷ 0 ∷ []
+told (waiting k) = 0 ∷ 0 ∷ k ∷ []
 told (ended t) = 0 ∷ 2 ∷ t ∷ []
 
 -- Refusals: each test with the number that is given where it fails
@@ -97,7 +99,10 @@ pub record Outcome : Type 0 where
 -- a start or a call that is accepted
 unfoldable pub opening : List Record → List Call → ℕ → ℕ → ℕ → Outcome
 opening rs cs parent ticket node =
-    record { core = record { plan = rs; calls = opened rs cs parent ticket node }; answer = cond (admissible rs cs node) active waiting }
+    record {
+      core = record { plan = rs; calls = opened rs cs parent ticket node };
+      answer = cond (admissible rs cs node) active (waiting (in-the-way rs cs node));
+    }
 
 -- "Then, of the calls waiting at that site with an admissible level, the one that has waited longest becomes active. The answer names it, or 0"
 unfoldable pub serving : List Record → List Call → ℕ → Outcome

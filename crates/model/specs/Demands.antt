@@ -9,7 +9,7 @@ use mathlib.Core.Option.{some}
 use lib.ListN.{length}
 use Rattle.ids.specs.Limits.{no-ticket}
 use Rattle.lists.specs.Pick.{count, found}
-use Rattle.model.specs.Site.{may-admit}
+use Rattle.model.specs.Site.{may-admit, blocking}
 use Rattle.model.specs.Plan.{Record, threads, encode}
 use Rattle.model.specs.Reading.{accepted, refused-at, read, PlanOk}
 use Rattle.model.specs.PlanValue.{empty-plan, reading-plan}
@@ -45,12 +45,15 @@ pub record Demand-2 : Type 0 where
   pub accepted-when : (net : Core) → Keeps net → (command : Command) → (fault net command ≡ 0) ↔ First 0 (rows net command)
   pub refused-when : (net : Core) → Keeps net → (command : Command) (n : ℕ) → List·Memᴰ n (order command)
       → (fault net command ≡ n) ↔ First n (rows net command)
-  -- a start or a call that is accepted is active if the site stays lawful with one call more of its level, else waiting
+  -- a start or a call that is accepted is active if the site stays lawful with one call more of its level, else waiting, with the highest full level at
+  -- or below it (02, 1/14)
   pub opening-answer : (net : Core) (command : Command) (parent ticket node : ℕ) → OpensCall command parent ticket node → fault net command ≡ 0
       → step net command .answer
       ≡ cond
       (may-admit (threads (net .plan) (site-of (net .plan) node)) (counts (net .plan) (net .calls) (site-of (net .plan) node)) (level-of (net .plan) node))
-      active waiting
+      active
+      (waiting
+      (blocking (threads (net .plan) (site-of (net .plan) node)) (counts (net .plan) (net .calls) (site-of (net .plan) node)) (level-of (net .plan) node)))
   -- "and leaves the state that the paper and the rules define": the call stands behind those opened before
   pub opening-state : (net : Core) (command : Command) (parent ticket node : ℕ) → OpensCall command parent ticket node → fault net command ≡ 0
       → step net command .core ≡ record { plan = net .plan; calls = net .calls ++ (newcomer (net .plan) (net .calls) parent ticket node ∷ []) }

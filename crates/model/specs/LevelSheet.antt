@@ -13,8 +13,8 @@ use Rattle.model.specs.PlanValue.{reading-told}
 pub data Case : Type 0 where
   -- threads, the levels of the active calls, and the firmware's number: the highest admissible level plus 1, or 0 for none
   site : ℕ → List ℕ → ℕ → Case
-  -- threads, the levels of the active calls, the level of one more, and 1 where it may be admitted or 0 where it waits
-  call : ℕ → List ℕ → ℕ → ℕ → Case
+  -- threads, the levels of the active calls, the level of one more that waits, and the level in its way
+  waits : ℕ → List ℕ → ℕ → ℕ → Case
   -- plan bytes, and what the reading tells: 0 and the bytes used, or the refusal and its offset
   plan : List ℕ → ℕ → ℕ → Case
 
@@ -25,7 +25,7 @@ counts-of active = put (replicate most-threads 0) active
 -- what a line says of the definitions
 abbrev pub Holds : Case → Type 0
 Holds (site threads active number) = firmware threads (counts-of active) ≡ number
-Holds (call threads active asked admitted) = admission-answer threads (counts-of active) asked ≡ 0 ∷ admitted ∷ []
+Holds (waits threads active asked blocked-by) = admission-answer threads (counts-of active) asked ≡ 0 ∷ 0 ∷ blocked-by ∷ []
 Holds (plan bytes number place) = reading-told (read bytes) ≡ number ∷ place ∷ []
 
 -- two sites of 2 threads; nodes 0 at site 0, 1 and 2 at site 1, 3 at site 0; edges 0 to 1 and 2 to 3; all levels 0 but that of node 2
@@ -45,13 +45,18 @@ abbrev pub table : List Case
 table =
     -- T = 10, active 1 2 3 4 4 4 5 6 9: highest admissible 0
     site 10 (1 ∷ 2 ∷ 3 ∷ 4 ∷ 4 ∷ 4 ∷ 5 ∷ 6 ∷ 9 ∷ []) 1
+    -- 02, 1/14: of these levels 5 to 8 are blocked by 4, 9 by 9 and 2 by 2
+    ∷ waits 10 (1 ∷ 2 ∷ 3 ∷ 4 ∷ 4 ∷ 4 ∷ 5 ∷ 6 ∷ 9 ∷ []) 5 4
+    ∷ waits 10 (1 ∷ 2 ∷ 3 ∷ 4 ∷ 4 ∷ 4 ∷ 5 ∷ 6 ∷ 9 ∷ []) 8 4
+    ∷ waits 10 (1 ∷ 2 ∷ 3 ∷ 4 ∷ 4 ∷ 4 ∷ 5 ∷ 6 ∷ 9 ∷ []) 9 9
+    ∷ waits 10 (1 ∷ 2 ∷ 3 ∷ 4 ∷ 4 ∷ 4 ∷ 5 ∷ 6 ∷ 9 ∷ []) 2 2
     -- less the 3: 3
     ∷ site 10 (1 ∷ 2 ∷ 4 ∷ 4 ∷ 4 ∷ 5 ∷ 6 ∷ 9 ∷ []) 4
     -- less a 4 as well: 8
     ∷ site 10 (1 ∷ 2 ∷ 4 ∷ 4 ∷ 5 ∷ 6 ∷ 9 ∷ []) 9
     -- T = 3, active 1 1: highest 0, so level 2 waits
     ∷ site 3 (1 ∷ 1 ∷ []) 1
-    ∷ call 3 (1 ∷ 1 ∷ []) 2 0
+    ∷ waits 3 (1 ∷ 1 ∷ []) 2 1
     -- T = 1, none active: 0
     ∷ site 1 [] 1
     -- T = 1, active 0: none

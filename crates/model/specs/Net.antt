@@ -8,7 +8,7 @@ use lib.ListN.{replicate}
 use lib.Dec.{leb, eqb}
 use Rattle.ids.specs.Limits.{most-threads, no-ticket}
 use Rattle.lists.specs.Pick.{any, found, without, changed, picked}
-use Rattle.model.specs.Site.{raised, may-admit, limit}
+use Rattle.model.specs.Site.{raised, may-admit, limit, blocking}
 use Rattle.model.specs.Plan.{Record, Place, place, present, threads}
 use Rattle.model.specs.PlanValue.{nowhere}
 
@@ -109,6 +109,10 @@ waiting-order rs cs s = picked (waits-on rs s) cs
 -- "A call of level i, below T, may be admitted exactly when the site stays lawful with a[i] one larger": a call at node n could be given a thread
 unfoldable pub admissible : List Record → List Call → ℕ → Bool
 admissible rs cs n = may-admit (threads rs (site-of rs n)) (counts rs cs (site-of rs n)) (level-of rs n)
+
+-- "the highest full level at or below it": what is in the way of a call at node n that may not be admitted
+unfoldable pub in-the-way : List Record → List Call → ℕ → ℕ
+in-the-way rs cs n = blocking (threads rs (site-of rs n)) (counts rs cs (site-of rs n)) (level-of rs n)
 
 -- how many levels of a site are admissible; of a listed site of a net that keeps the rules, the firmware's number (`limit-agrees`, of AgreeLaws)
 unfoldable pub limit-at : List Record → List Call → ℕ → ℕ

@@ -30,7 +30,7 @@ case-output =
     ++ ascii "S 2 G\n"
     ++ ascii "S 3 G\n"
     ++ ascii "E 1 0\n"
-    ++ ascii "S 4 W\n"
+    ++ ascii "S 4 W 1\n"
     ++ ascii "E 2 4\n"
     ++ ascii "Q 4 A\n"
     ++ ascii "done 7\n"

@@ -1,11 +1,12 @@
 -- The site book: document 01, "The site book", and section 3.1 of the paper.
 -- `T` is the number of threads of the site, and `a` lists its active calls by level: `getD a k 0` is a[k]. Assumes nothing.
-use Prim.Native.Nat.{ℕ, suc, _-_}
-use mathlib.Core.Bool.{Bool, not, _&&_, _||_}
+use Prim.Native.Nat.{ℕ, suc, _-_, _≤_, _<_}
+use mathlib.Core.Path.{_≡_}
+use mathlib.Core.Bool.{Bool, true, false, not, _&&_, _||_}
 use mathlib.Core.List.{List, [], _∷_}
 use lib.ListN.{length, getD, drop, set}
 use lib.Dec.{leb, ltb, eqb}
-use Rattle.lists.specs.Count.{sum, every, first}
+use Rattle.lists.specs.Count.{sum, every, first, last}
 use Rattle.ids.specs.Limits.{most-threads}
 
 -- "A[k] the sum of a[j] for all j at or above k"
@@ -37,6 +38,16 @@ full T a k = eqb (A a k) (T - k)
 -- This is that level plus 1, and 0 for "none": how many levels are admissible, and the firmware's number
 unfoldable pub limit : ℕ → List ℕ → ℕ
 limit T a = first T (full T a)
+
+-- 02, 1/14: "for a level that may not be admitted, the highest full level at or below it"
+unfoldable pub blocking : ℕ → List ℕ → ℕ → ℕ
+blocking T a i = last (suc i) (full T a)
+
+-- level k is what is in the way of level i: it is that number exactly where i may not be admitted (`blocked-by`, `blocks-only`, of BlockingLaws)
+pub record InTheWay (T : ℕ) (a : List ℕ) (i k : ℕ) : Type 0 where
+  pub is-full : full T a k ≡ true
+  pub at-or-below : k ≤ i
+  pub none-between : (j : ℕ) → k < j → j ≤ i → full T a j ≡ false
 
 -- "The room at level k, for the status page, is T - k - A[k]"
 unfoldable pub room : ℕ → List ℕ → ℕ → ℕ

@@ -19,13 +19,13 @@ active-calls net s = count (active-on (net .plan) s) (net .calls)
 abbrev pub admits : Command → Answer → Bool
 admits c (refused n) = false
 admits c active = true
-admits c waiting = false
+admits c (waiting k) = false
 admits c (ended t) = not (eqb t no-ticket)
 
 abbrev accepts : Answer → Bool
 accepts (refused n) = false
 accepts active = true
-accepts waiting = true
+accepts (waiting k) = true
 accepts (ended t) = true
 
 abbrev pub returns : Command → Answer → Bool

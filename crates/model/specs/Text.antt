@@ -58,11 +58,11 @@ newline = ascii "\n"
 abbrev pub refusal-text : ℕ → Text
 refusal-text n = ascii " R" ++ spaced n
 
--- "`G` active, `W` waiting"; "A return prints the ticket admitted or 0"
+-- "`G` active, `W` waiting", with the level in the way "after W"; "A return prints the ticket admitted or 0"
 unfoldable pub answer-text : Answer → Text
 answer-text (refused n) = refusal-text n
 answer-text active = ascii " G"
-answer-text waiting = ascii " W"
+answer-text (waiting k) = ascii " W" ++ spaced k
 answer-text (ended t) = spaced t
 
 -- "a question `A`, `W` or `N` (not open)"

@@ -17,10 +17,10 @@ pub enum LevelAnswer {
     Refused,
 }
 
-// Whether a call of some level may be admitted.
+// Whether a call of some level may be admitted, and if not the level that is in the way: the highest full one at or below it.
 pub enum AdmissionAnswer {
     Admitted,
-    Waits,
+    Waits(Level),
     Refused,
 }
 

@@ -1,6 +1,6 @@
 -- What `moves::open` does to the arrays: the newcomer's numbers are stored behind the others, and the rooms lose one where it is active. From the laws of the
 -- arrays and of the rooms. Assumes nothing.
-use Prim.Native.Nat.{ℕ, _+_, _*_, _≤_, _<_}
+use Prim.Native.Nat.{ℕ, suc, _+_, _*_, _≤_, _<_}
 use native.Mathlib.Omega.{arith}
 use mathlib.Core.Path.{_≡_, refl, sym, ap, subst, _∙_}
 use mathlib.Core.Bool.{Bool, true, false, _&&_, cond}
@@ -9,18 +9,18 @@ use lib.ListN.{length, set, length-append}
 use lib.Dec.{ltb, eqb}
 use borrow.Author.Tests.{lt-ltb, le-ltb, eq-eqb, ne-eqb}
 use Rattle.ids.specs.Limits.{sites, most-threads, most-open}
-use Rattle.lists.specs.Count.{first}
+use Rattle.lists.specs.Count.{first, last}
 use Rattle.lists.specs.Fill.{Filled, renewed}
-use Rattle.model.specs.Site.{lawful, raised}
+use Rattle.model.specs.Site.{lawful, raised, blocking}
 use Rattle.model.specs.Plan.{Record, threads}
-use Rattle.model.specs.Net.{Call, site-of, level-of, is-on, active-on, counts, admissible, limit-at, newcomer, opened}
+use Rattle.model.specs.Net.{Call, site-of, level-of, is-on, active-on, counts, admissible, in-the-way, limit-at, newcomer, opened}
 use Rattle.model.proofs.PlaceLaws.{threads-most, site-small, level-small, level-below-threads}
 use Rattle.model.proofs.CountsLaws.{more, counts-length, counts-opened}
 use Rattle.model.proofs.AdmitLaws.{admissible-limit}
 use Rattle.model.proofs.FirmLaws.{opened-firm, more-lawful}
 use Rattle.rooms.specs.Rooms.{no-room, one-less, Taking, Limited}
 use Rattle.moves.specs.Held.{Tells, key-of, room-byte, RoomsTell, Arrays, arrays, Held, Placed, CanOpen}
-use Rattle.moves.proofs.RoomLaws.{limited, rooms-limit, taking, rooms-taken}
+use Rattle.moves.proofs.RoomLaws.{limited, rooms-limit, rooms-blocking, taking, rooms-taken}
 use Rattle.moves.proofs.TableLaws.{tells-opened, tells-opened-0}
 
 -- The limit of a site
@@ -146,6 +146,17 @@ module _ {rs : List Record} {cs : List Call} {a : Arrays} {used parent ticket no
       go : (b : Bool) → more (b && false) (counts rs cs s) (level-of rs node) ≡ counts rs cs s
       go true = refl
       go false = refl
+
+  -- what is in its way then, as the rooms show it afterwards
+  pub waits-for : admissible rs cs node ≡ false → (b : Arrays) (used-after : ℕ) → Held rs (opened rs cs parent ticket node) b used-after
+      → last (suc level) (no-room (b .rooms) (most-threads * site)) ≡ in-the-way rs cs node
+  unfolding in-the-way
+  waits-for e b used-after held =
+      rooms-blocking rs (counts rs (opened rs cs parent ticket node)) (b .rooms) (held .of-rooms) site (site-inside (ok .held) (ok .placed))
+      (threads-most rs (held .firm .pass) site) (held .firm .law site) level (level-under (ok .held) (ok .placed))
+      ∙ ap (λ (c : List ℕ). blocking (threads rs site) c level) (counts-waiting e site)
+      ∙ ap (λ (s : ℕ). blocking (threads rs s) (counts rs cs s) level) (ok .placed .site-is)
+      ∙ ap (blocking (threads rs (site-of rs node)) (counts rs cs (site-of rs node))) (ok .placed .level-is)
 
   pub opened-active : admissible rs cs node ≡ true → (rooms : List ℕ)
       → Filled (renewed one-less (a .rooms)) (most-threads * site) (most-threads * site + (level + 1)) (a .rooms) rooms

@@ -1,6 +1,6 @@
 -- The rooms in an array are the site book's: the lowest level without room is the limit, an admission takes one room from its level and those below it,
 -- and a return gives it back. Assumes nothing.
-use Prim.Native.Nat.{ℕ, _+_, _-_, _*_, _≤_, _<_}
+use Prim.Native.Nat.{ℕ, suc, _+_, _-_, _*_, _≤_, _<_}
 use native.Mathlib.Omega.{arith}
 use mathlib.Core.Path.{_≡_, sym, ap, subst, _∙_}
 use mathlib.Core.Logic.{_⊎_, inl, inr, ⊎-elim}
@@ -10,11 +10,11 @@ use lib.ListN.{length, getD}
 use lib.Dec.{leb, eqb}
 use borrow.Author.Tests.{lt-ltb, le-ltb, le-leb, lt-leb, eq-eqb, eqb-true, eqb-false}
 use Rattle.ids.specs.Limits.{sites, most-threads}
-use Rattle.lists.specs.Count.{one, first}
+use Rattle.lists.specs.Count.{one, first, last}
 use Rattle.lists.specs.Fill.{Filled, renewed}
-use Rattle.lists.proofs.CountLaws.{true-or-false, lt-or-ge, same-test}
+use Rattle.lists.proofs.CountLaws.{true-or-false, lt-or-ge, same-test, last-same}
 use Rattle.lists.proofs.TellLaws.{first-same}
-use Rattle.model.specs.Site.{A, lawful, raised, full, limit, room}
+use Rattle.model.specs.Site.{A, lawful, raised, full, limit, blocking, room}
 use Rattle.model.specs.Plan.{Record, threads}
 use Rattle.model.specs.NetRules.{Book}
 use Rattle.model.proofs.SiteLaws.{A-one, lawful-at, full-is, is-full}
@@ -69,6 +69,11 @@ module _ (rs : List Record) (book : Book) (rooms : List ℕ) (tells : RoomsTell 
     pub rooms-limit : lawful T (book s) ≡ true → first T (no-room rooms base) ≡ limit T (book s)
     unfolding limit
     rooms-limit law = first-same T (no-room rooms base) (full T (book s)) (full-room law)
+
+    -- what is in the way of a level: the highest level up to it without room
+    pub rooms-blocking : lawful T (book s) ≡ true → (i : ℕ) → i < T → last (suc i) (no-room rooms base) ≡ blocking T (book s) i
+    unfolding blocking
+    rooms-blocking law i below = last-same (suc i) (no-room rooms base) (full T (book s)) (λ k h. full-room law k (omega arith))
 
     -- what has changed at this site alone
     elsewhere-same : (after : List ℕ) (next : Book) (change : ℕ → ℕ) (i : ℕ) → i < most-threads

@@ -14,7 +14,7 @@ use Rattle.model.specs.Plan.{Record, six}
 use Rattle.model.specs.Reading.{PlanOk}
 use Rattle.model.specs.PlanValue.{records-of, value}
 use Rattle.model.specs.PlanFault.{plan-fault, checked-plan}
-use Rattle.model.specs.Net.{Core, admissible, empty-net}
+use Rattle.model.specs.Net.{Core, admissible, in-the-way, empty-net}
 use Rattle.model.specs.NetRules.{Keeps}
 use Rattle.model.specs.Command.{Command, start, call, return, take-back, Answer, refused, active, waiting, ended, fault, done, opening, serving, withdrawing, step, run}
 use Rattle.model.specs.Demands.{Safe}
@@ -34,25 +34,21 @@ use Rattle.net.proofs.ValueLaws.{core-back, value-sound, sound-parts, s
 use Rattle.net.proofs.AnsweredLaws.{broken-answered, broken-asked, broken-room}
 
 -- a command that is accepted is answered by no refusal
+newcomer-accepted : (b : Bool) (k n : ℕ) → cond b active (waiting k) ≡ refused n → ⊥
+newcomer-accepted true k n e = let z : _≡_ {A = ℕ} 0 1 = cc in omega arith
+newcomer-accepted false k n e = let z : _≡_ {A = ℕ} 0 1 = cc in omega arith
+
 accepts : (net : Core) (c : Command) (n : ℕ) → done net c .answer ≡ refused n → ⊥
 unfolding opening serving withdrawing
-accepts net (start ticket node) n e = go (admissible (net .plan) (net .calls) node) e
-  where
-    go : (b : Bool) → cond b active waiting ≡ refused n → ⊥
-    go true q = let z : _≡_ {A = ℕ} 0 1 = cc in omega arith
-    go false q = let z : _≡_ {A = ℕ} 0 1 = cc in omega arith
-accepts net (call parent ticket node) n e = go (admissible (net .plan) (net .calls) node) e
-  where
-    go : (b : Bool) → cond b active waiting ≡ refused n → ⊥
-    go true q = let z : _≡_ {A = ℕ} 0 1 = cc in omega arith
-    go false q = let z : _≡_ {A = ℕ} 0 1 = cc in omega arith
+accepts net (start ticket node) n e = newcomer-accepted (admissible (net .plan) (net .calls) node) (in-the-way (net .plan) (net .calls) node) n e
+accepts net (call parent ticket node) n e = newcomer-accepted (admissible (net .plan) (net .calls) node) (in-the-way (net .plan) (net .calls) node) n e
 accepts net (return ticket) n e = let z : _≡_ {A = ℕ} 0 1 = cc in omega arith
 accepts net (take-back ticket) n e = let z : _≡_ {A = ℕ} 0 1 = cc in omega arith
 
 renewed : (net : Net) (core : Core) (a : Answer) → ((n : ℕ) → a ≡ refused n → ⊥) → net-after net core a ≡ value-of (net .plan) (core .calls)
 renewed net core (refused n) no-refusal = absurd (no-refusal n refl)
 renewed net core active no-refusal = refl
-renewed net core waiting no-refusal = refl
+renewed net core (waiting k) no-refusal = refl
 renewed net core (ended t) no-refusal = refl
 
 -- A command
@@ -147,7 +143,7 @@ module _ (p : Plan) (none : make-answered p .refusal ≡ 0) where
 refused-back : (net : Net) (core : Core) (a : Answer) (n : ℕ) → answer-value a ≡ CommandAnswer.Refused n → net-after net core a ≡ net
 refused-back net core (refused m) n e = refl
 refused-back net core active n e = let z : _≡_ {A = ℕ} 0 1 = cc in absurd (omega arith)
-refused-back net core waiting n e = let z : _≡_ {A = ℕ} 0 1 = cc in absurd (omega arith)
+refused-back net core (waiting k) n e = let z : _≡_ {A = ℕ} 0 1 = cc in absurd (omega arith)
 refused-back net core (ended t) n e = let z : _≡_ {A = ℕ} 0 1 = cc in absurd (omega arith)
 
 same-net : (net : Net) (c : Command) (n : ℕ) → command-answered net c .answer ≡ CommandAnswer.Refused n → command-answered net c .net ≡ net

@@ -3,7 +3,7 @@ use Prim.Native.Nat.{ℕ}
 use native.Mathlib.Omega.{arith}
 use mathlib.Core.Path.{_≡_, ap}
 use Rattle.model.specs.Command.{Roomed, has-room, room-refused}
-use Rattle.text.specs.declared.Printed.the-variants.{Letter, Number, Refused}
+use Rattle.text.specs.declared.Printed.the-variants.{Letter, Number, Refused, Waits}
 use Rattle.text.specs.Lines.{of-room}
 use Rattle.value.specs.Handed.{room-value}
 use Rattle.pack.proofs.AnswerLaws.{kind-in, number-in}
@@ -12,6 +12,10 @@ use Rattle.value.specs.declared.NetRoom.{NetRoom}
 pub no-letter : (letter : ℕ) (r : NetRoom) (a : Roomed) → Letter letter ≡ of-room a → r ≡ room-value a
 no-letter letter r (has-room n) e = absurd (omega (arith, ap kind-in e))
 no-letter letter r (room-refused n) e = absurd (omega (arith, ap kind-in e))
+
+pub no-level : (level : ℕ) (r : NetRoom) (a : Roomed) → Waits level ≡ of-room a → r ≡ room-value a
+no-level level r (has-room n) e = absurd (omega (arith, ap kind-in e))
+no-level level r (room-refused n) e = absurd (omega (arith, ap kind-in e))
 
 pub number-room : (n : ℕ) (a : Roomed) → Number n ≡ of-room a → NetRoom.Room n ≡ room-value a
 number-room n (has-room m) e = ap NetRoom.Room (ap number-in e)

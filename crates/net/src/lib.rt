@@ -193,6 +193,7 @@ fn room_of(what: Printed) -> NetRoom
         Printed::Letter(_) => NetRoom::Room(0), // no room is told so
         Printed::Number(room) => NetRoom::Room(room),
         Printed::Refused(number) => NetRoom::Refused(number),
+        Printed::Waits(_) => NetRoom::Room(0), // nor so
     }
 }
 

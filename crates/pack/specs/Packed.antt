@@ -28,9 +28,6 @@ Packs plan tickets parents keys nodes used net = (cs : List Call) → Packing pl
 
 -- Answers
 
-abbrev pub LetterTold : ℕ → CommandAnswer → Type 0
-LetterTold letter r = (a : Answer) → Printed.Letter letter ≡ of-answer a → r ≡ answer-value a
-
 abbrev pub AnswerTold : Printed → CommandAnswer → Type 0
 AnswerTold what r = (a : Answer) → what ≡ of-answer a → r ≡ answer-value a
 

@@ -1,5 +1,6 @@
 // The net that is handed back, put together from the arrays of a run. An inner crate: the library's own crates alone call it.
-ghost use Rattle.pack.specs.Packed.{Packable, Packs, LetterTold, AnswerTold, Handable, Hands};
+ghost use Rattle.pack.specs.Packed.{Packable, Packs, AnswerTold, Handable, Hands};
+use ids::Level;
 use ids::Site;
 use ids::Ticket;
 use model::Plan;
@@ -34,24 +35,15 @@ pub fn packed<'a>(
     }
 }
 
-// A newcomer's letter.
-fn entered(letter: u8) -> CommandAnswer
-    ensures { λ r. ⌜ LetterTold letter r ⌝ }
-{
-    if letter == b'G' {
-        return CommandAnswer::Active;
-    }
-    CommandAnswer::Waiting
-}
-
-// A command's answer, by what is printed of it.
+// A command's answer, by what is printed of it. The one letter is that of an active call.
 fn answer_of(what: Printed) -> CommandAnswer
     ensures { λ r. ⌜ AnswerTold what r ⌝ }
 {
     match what {
-        Printed::Letter(letter) => entered(letter),
+        Printed::Letter(_) => CommandAnswer::Active,
         Printed::Number(ticket) => CommandAnswer::Ended(Ticket(ticket)),
         Printed::Refused(number) => CommandAnswer::Refused(number),
+        Printed::Waits(level) => CommandAnswer::Waiting(Level(level)),
     }
 }
 

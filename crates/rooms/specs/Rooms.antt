@@ -17,6 +17,11 @@ one-less n = n - 1
 abbrev pub one-more : ℕ → ℕ
 one-more n = n + 1
 
+-- a level of a site whose rooms stand in the array
+pub record Ranged (rooms : List ℕ) (base level : ℕ) : Type 0 where
+  pub inside : base + most-threads ≤ length rooms
+  pub level-small : level < most-threads
+
 -- each room up to a level is above 0
 pub record Taking (rooms : List ℕ) (base level : ℕ) : Type 0 where
   pub inside : base + most-threads ≤ length rooms

@@ -3,11 +3,11 @@
 // library's own crates alone call it.
 ghost use mathlib.Core.Path.{_≡_};
 ghost use mathlib.Core.Bool.{cond};
-ghost use Prim.Native.Nat.{_+_, min};
+ghost use Prim.Native.Nat.{suc, _+_, min};
 ghost use lib.Dec.{eqb};
-ghost use Rattle.lists.specs.Count.{first};
+ghost use Rattle.lists.specs.Count.{first, last};
 ghost use Rattle.lists.specs.Fill.{Filled, renewed};
-ghost use Rattle.rooms.specs.Rooms.{no-room, one-less, one-more, Taking, Giving, Limited};
+ghost use Rattle.rooms.specs.Rooms.{no-room, one-less, one-more, Taking, Giving, Limited, Ranged};
 use ids::Site;
 
 // A thread is taken by a call of a level.
@@ -58,4 +58,19 @@ pub fn limit(rooms: &[u8], base: usize, threads: u8) -> u8
         level += 1;
     }
     low
+}
+
+// The highest full level at or below one, read downwards from it; 0 where there is none.
+pub fn blocking(rooms: &[u8], base: usize, level: u8) -> u8
+    requires { ⌜ Ranged (now rooms) base level ⌝ }
+    ensures { λ r. ⌜ r ≡ last (suc level) (no-room (now (rooms .entry)) base) ⌝ }
+{
+    let mut k = level;
+    while 0 < k {
+        if rooms[base + k as usize] == 0 {
+            return k;
+        }
+        k -= 1;
+    }
+    0
 }

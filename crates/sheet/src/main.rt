@@ -94,7 +94,10 @@ fn show_admission(threads: u8, active: &[u8], level: u8) {
     say_item(b"level ", level as u64);
     match book::admission(threads, &counts, Level(level)) {
         AdmissionAnswer::Admitted => say(b" may be admitted\n"),
-        AdmissionAnswer::Waits => say(b" waits\n"),
+        AdmissionAnswer::Waits(blocked_by) => {
+            say_item(b" waits for level ", blocked_by.0 as u64);
+            say(b"\n");
+        }
         AdmissionAnswer::Refused => say(b" is refused\n"),
     }
 }

@@ -29,7 +29,7 @@ fn refusals(answer: CommandAnswer) -> u64
     match answer {
         CommandAnswer::Refused(_) => 1,
         CommandAnswer::Active => 0,
-        CommandAnswer::Waiting => 0,
+        CommandAnswer::Waiting(_) => 0,
         CommandAnswer::Ended(_) => 0,
     }
 }
@@ -39,8 +39,8 @@ fn asked(answer: AskAnswer) -> CommandAnswer {
     match answer {
         AskAnswer::Refused(number) => CommandAnswer::Refused(number),
         AskAnswer::Active => CommandAnswer::Active,
-        AskAnswer::Waiting => CommandAnswer::Waiting,
-        AskAnswer::NotOpen => CommandAnswer::Waiting,
+        AskAnswer::Waiting => CommandAnswer::Active,
+        AskAnswer::NotOpen => CommandAnswer::Active,
     }
 }
 

@@ -1,17 +1,20 @@
 -- A start and a call are one opening: what their tests leave, where the newcomer's node stands in the plan's arrays, and the net after it. Assumes nothing.
-use Prim.Native.Nat.{ℕ, _+_, _<_}
+use Prim.Native.Nat.{ℕ, suc, _+_, _*_, _<_}
 use native.Mathlib.Omega.{arith}
 use mathlib.Core.Path.{_≡_, refl, sym, ap, subst, _∙_}
 use mathlib.Core.Bool.{Bool, true, false, cond}
 use mathlib.Core.List.{List}
 use lib.ListN.{getD}
-use Rattle.ids.specs.Limits.{sites, nodes, most-open, no-ticket}
-use Rattle.model.specs.Net.{Core, has-node, site-of, admissible, opened}
+use Rattle.ids.specs.Limits.{sites, nodes, most-threads, most-open, no-ticket}
+use Rattle.lists.specs.Count.{last}
+use Rattle.model.specs.Net.{Core, has-node, site-of, admissible, in-the-way, opened}
 use Rattle.model.specs.Steady.{Newcomer}
-use Rattle.model.specs.Command.{start, call, active, waiting, fault, opening, done, step}
+use Rattle.model.specs.Command.{start, call, Answer, active, waiting, fault, opening, done, step}
 use Rattle.model.proofs.StepLaws.{accepted-step, start-fits, call-fits}
 use Rattle.model.proofs.PlaceLaws.{site-small}
+use Rattle.rooms.specs.Rooms.{no-room, Ranged}
 use Rattle.moves.specs.Held.{Arrays, Held, Placed, CanOpen}
+use Rattle.moves.proofs.OpenLaws.{level-inside, waits-for}
 use Rattle.faults.proofs.LadderLaws.{node-small}
 use Rattle.text.specs.declared.Printed.{Printed}
 use Rattle.text.specs.Lines.{of-answer}
@@ -91,13 +94,32 @@ module _ {net : Core} {a : Arrays} {used : ℕ} {most-of places levels edges : L
   pub can-open : CanOpen (net .plan) (net .calls) a used parent ticket node (getD places node 0) (getD levels node 0) (getD most-of (getD places node 0) 0)
   can-open = record { held = ok .running .held; fits = fits; placed = node-placed (ok .running) node (fits .listed-node) }
 
-  pub entered : {b : Arrays} {admitted : Bool} {what : Printed} → what ≡ of-answer (cond admitted active waiting)
+  pub entry-ranged : (b : Arrays) (used-after : ℕ) → Held (net .plan) (opened (net .plan) (net .calls) parent ticket node) b used-after
+      → Ranged (b .rooms) (most-threads * getD places node 0) (getD levels node 0)
+  entry-ranged b used-after held =
+      record { inside = omega (arith, held .of-rooms .whole, site-there); level-small = level-inside (ok .running .held) (can-open .placed) }
+
+  -- what is said of it: that it is active, or what is in its way as the rooms show it
+  abbrev told : Bool → List ℕ → Answer
+  told admitted rooms = cond admitted active (waiting (last (suc (getD levels node 0)) (no-room rooms (most-threads * getD places node 0))))
+
+  told-is : (b : Arrays) → Held (net .plan) (opened (net .plan) (net .calls) parent ticket node) b (used + 1)
+      → told (admissible (net .plan) (net .calls) node) (b .rooms) ≡ opening (net .plan) (net .calls) parent ticket node .answer
+  unfolding opening
+  told-is b held = go (admissible (net .plan) (net .calls) node) refl
+    where
+      go : (x : Bool) → admissible (net .plan) (net .calls) node ≡ x
+          → told x (b .rooms) ≡ cond x active (waiting (in-the-way (net .plan) (net .calls) node))
+      go true e = refl
+      go false e = ap waiting (waits-for can-open e b (used + 1) held)
+
+  pub entered : {b : Arrays} {admitted : Bool} {what : Printed} → what ≡ of-answer (told admitted (b .rooms))
       → (admitted ≡ admissible (net .plan) (net .calls) node) × Held (net .plan) (opened (net .plan) (net .calls) parent ticket node) b (used + 1)
       → Stepped (step net (entering called parent ticket node)) b (used + 1) what most-of places levels edges
   unfolding opening
-  entered says after =
+  entered {b} says after =
       let command = entering called parent ticket node in
-      runs-after (ok .running) command (opened (net .plan) (net .calls) parent ticket node) (cond (admissible (net .plan) (net .calls) node) active waiting)
+      runs-after (ok .running) command (opened (net .plan) (net .calls) parent ticket node) (opening (net .plan) (net .calls) parent ticket node .answer)
       (accepted-step net command none-fails ∙ entering-done net called parent ticket node (ok .no-parent))
-      (says ∙ ap (λ (x : Bool). of-answer (cond x active waiting)) (after .0))
+      (says ∙ ap (λ (x : Bool). of-answer (told x (b .rooms))) (after .0) ∙ ap of-answer (told-is b (after .1)))
       (after .1)

@@ -3,6 +3,10 @@
 ghost use mathlib.Core.Path.{_≡_};
 ghost use mathlib.Core.Bool.{cond};
 ghost use mathlib.Core.List.{List};
+ghost use Prim.Native.Nat.{suc, _*_};
+ghost use Rattle.ids.specs.Limits.{most-threads};
+ghost use Rattle.lists.specs.Count.{last};
+ghost use Rattle.rooms.specs.Rooms.{no-room, Ranged};
 ghost use Rattle.model.specs.Plan.{Record};
 ghost use Rattle.model.specs.Net.{Call, Core};
 ghost use Rattle.model.specs.Command.{active, waiting};
@@ -52,14 +56,15 @@ fn entry_fault<'a>(
     faults::start_fault(tickets, used, places, ticket, node)
 }
 
-// A newcomer is active, or waits.
-fn letter(admitted: bool) -> Printed
-    ensures { λ r. ⌜ r ≡ of-answer (cond admitted active waiting) ⌝ }
+// A newcomer is active, or waits for a level to have room.
+fn entered(rooms: &[u8], site: u8, level: u8, admitted: bool) -> Printed
+    requires { ⌜ Ranged (now rooms) (most-threads * site) level ⌝ }
+    ensures { λ r. ⌜ r ≡ of-answer (cond admitted active (waiting (last (suc level) (no-room (now (rooms .entry)) (most-threads * site))))) ⌝ }
 {
     if admitted {
         return Printed::Letter(b'G');
     }
-    Printed::Letter(b'W')
+    Printed::Waits(rooms::blocking(rooms, Site::THREADS * site as usize, level))
 }
 
 // A call, or a start, which has no parent.
@@ -119,7 +124,7 @@ pub fn enter<'a>(
     );
     Done {
         used: used + 1,
-        what: letter(active),
+        what: entered(rooms, site, level, active),
     }
 }
 

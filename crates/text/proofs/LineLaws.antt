@@ -7,9 +7,9 @@ use Rattle.model.specs.Command.{Standing, is-running, is-waiting, not-open, ask
 use Rattle.model.specs.Net.{Core}
 use Rattle.model.specs.Text.{Text, spaced, newline, answer-text, standing-text, room-text, command-text, ask-text, room-asked-text}
 use Rattle.model.specs.Transcript.{command, question, room-question, line}
-use Rattle.text.specs.Lines.{of-answer, of-standing, of-room, printed, answer-end, line-text, line2-text}
+use Rattle.text.specs.Lines.{of-answer, of-standing, of-room, printed, marked-end, answer-end, line-text, line2-text}
 use Rattle.text.specs.declared.Printed.{Printed}
-use Rattle.text.specs.declared.Printed.the-variants.{Letter, Number, Refused}
+use Rattle.text.specs.declared.Printed.the-variants.{Letter, Number, Refused, Waits}
 
 -- An answer as the stores leave it
 
@@ -22,9 +22,13 @@ module _ {what : Printed} (n : ℕ) where
   unfolding answer-end printed
   number-ends e = sym (ap answer-end e)
 
-  pub refused-ends : what ≡ Refused n → (32 ∷ 82 ∷ []) ++ spaced n ++ (10 ∷ []) ≡ answer-end what
-  unfolding answer-end printed
+  pub refused-ends : what ≡ Refused n → marked-end 82 n ≡ answer-end what
+  unfolding answer-end printed marked-end
   refused-ends e = sym (ap answer-end e)
+
+  pub waits-ends : what ≡ Waits n → marked-end 87 n ≡ answer-end what
+  unfolding answer-end printed marked-end
+  waits-ends e = sym (ap answer-end e)
 
 -- The model's answers
 
@@ -32,7 +36,7 @@ pub answer-printed : (a : Answer) → answer-text a ≡ printed (of-answer a)
 unfolding answer-text printed
 answer-printed (refused n) = refl
 answer-printed active = refl
-answer-printed waiting = refl
+answer-printed (waiting k) = refl
 answer-printed (ended t) = refl
 
 pub standing-printed : (s : Standing) → standing-text s ≡ printed (of-standing s)

@@ -4,14 +4,14 @@ use mathlib.Core.List.{[], _∷_, _++_}
 use Rattle.model.specs.Command.{Answer, refused, active, waiting, ended, Standing, is-running, is-waiting, not-open, Roomed, has-room, room-refused}
 use Rattle.model.specs.Text.{Text, digit, spaced, refusal-text, newline}
 use Rattle.text.specs.declared.Printed.{Printed}
-use Rattle.text.specs.declared.Printed.the-variants.{Letter, Number, Refused}
+use Rattle.text.specs.declared.Printed.the-variants.{Letter, Number, Refused, Waits}
 
--- the model's answers as they are printed: `G`, `W`, a number; `A`, `W`, `N`; or `R` and a number
+-- the model's answers as they are printed: `G`, `W` and a level, a number; `A`, `W`, `N`; or `R` and a number
 
 abbrev pub of-answer : Answer → Printed
 of-answer (refused n) = Refused n
 of-answer active = Letter 71
-of-answer waiting = Letter 87
+of-answer (waiting k) = Waits k
 of-answer (ended t) = Number t
 
 abbrev pub of-standing : Standing → Printed
@@ -27,11 +27,16 @@ of-room (room-refused n) = Refused n
 unfoldable pub pair-text : ℕ → Text
 pair-text n = digit (n / 10) ∷ digit (n % 10) ∷ []
 
--- an answer: a letter, a number, or `R` and a refusal number
+-- an answer: a letter, a number, `R` and a refusal number, or `W` and a level
 unfoldable pub printed : Printed → Text
 printed (Letter b) = 32 ∷ b ∷ []
 printed (Number n) = spaced n
 printed (Refused n) = refusal-text n
+printed (Waits k) = 32 ∷ 87 ∷ spaced k
+
+-- a letter and a number, as `R` 27 or `W` 1, and the line's end
+unfoldable pub marked-end : ℕ → ℕ → Text
+marked-end letter n = (32 ∷ letter ∷ []) ++ spaced n ++ newline
 
 -- an answer ends its line
 unfoldable pub answer-end : Printed → Text

@@ -4,14 +4,15 @@ ghost use Prim.Native.Nat.{_+_, _≤_, _<_};
 ghost use lib.ListN.{length};
 ghost use Rattle.model.specs.Text.{ascii, decimal, spaced, plan-line, plan-refused-line, done-line, bad-line};
 ghost use Rattle.text.specs.Put.{Put};
-ghost use Rattle.text.specs.Lines.{pair-text, answer-end, line-text, line2-text};
+ghost use Rattle.text.specs.Lines.{pair-text, marked-end, answer-end, line-text, line2-text};
 ghost use Rattle.text.specs.Room.{number-room, long-room, answer-room, line-room, word-room, plan-room, plan-refused-room, done-room, bad-room};
 
-// An answer: a letter, a number, or a refusal's number.
+// An answer: a letter, a number, a refusal's number, or `W` and the level in the way.
 pub enum Printed {
     Letter(u8),
     Number(u16),
     Refused(u8),
+    Waits(u8),
 }
 
 // The digit 0.
@@ -78,6 +79,18 @@ pub fn long_number(text: &mut [u8], at: usize, n: usize) -> usize
     digits(text, at + 1, n)
 }
 
+// A letter, a number and the line's end.
+fn marked(text: &mut [u8], at: usize, letter: u8, n: u8) -> usize
+    requires { ⌜ at + answer-room ≤ length (now text) ⌝ }
+    ensures { λ r. ⌜ Put (now (text .entry)) at (marked-end letter n) (now (text .exit)) r ⌝ }
+{
+    text[at] = b' ';
+    text[at + 1] = letter;
+    let told = number(text, at + 2, n as u16);
+    text[told] = b'\n';
+    told + 1
+}
+
 // An answer and the line's end.
 fn answer(text: &mut [u8], at: usize, what: Printed) -> usize
     requires { ⌜ at + answer-room ≤ length (now text) ⌝ }
@@ -95,13 +108,8 @@ fn answer(text: &mut [u8], at: usize, what: Printed) -> usize
             text[told] = b'\n';
             told + 1
         }
-        Printed::Refused(n) => {
-            text[at] = b' ';
-            text[at + 1] = b'R';
-            let told = number(text, at + 2, n as u16);
-            text[told] = b'\n';
-            told + 1
-        }
+        Printed::Refused(n) => marked(text, at, b'R', n),
+        Printed::Waits(level) => marked(text, at, b'W', level),
     }
 }
 

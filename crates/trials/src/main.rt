@@ -25,7 +25,7 @@ fn say_item(word: &[u8], number: u64) {
 fn say_answer(answer: CommandAnswer) {
     match answer {
         CommandAnswer::Active => say(b"active"),
-        CommandAnswer::Waiting => say(b"waits"),
+        CommandAnswer::Waiting(level) => say_item(b"waits for level ", level.0 as u64),
         CommandAnswer::Ended(admitted) => say_item(b"admits ", admitted.0 as u64),
         CommandAnswer::Refused(number) => say_item(b"refused ", number as u64),
     }

@@ -58,14 +58,14 @@ value-of p cs = record { plan = p; calls = table-of cs; used = length cs; counts
 abbrev pub answer-value : Answer → CommandAnswer
 answer-value (refused n) = CommandAnswer.Refused n
 answer-value active = CommandAnswer.Active
-answer-value waiting = CommandAnswer.Waiting
+answer-value (waiting k) = CommandAnswer.Waiting (record { 0 = k })
 answer-value (ended t) = CommandAnswer.Ended (record { 0 = t })
 
 -- "A refusal hands back its number with the net unchanged"
 abbrev pub net-after : Net → Core → Answer → Net
 net-after net core (refused n) = net
 net-after net core active = value-of (net .plan) (core .calls)
-net-after net core waiting = value-of (net .plan) (core .calls)
+net-after net core (waiting k) = value-of (net .plan) (core .calls)
 net-after net core (ended t) = value-of (net .plan) (core .calls)
 
 -- what is handed back of an outcome

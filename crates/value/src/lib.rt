@@ -1,5 +1,6 @@
 // The net as anybody may hold it and hand it in: its types, what a value says and which value a command hands back (specs/), and the laws that tie
 // the two (proofs/). No code.
+use ids::Level;
 use ids::Node;
 use ids::Site;
 use ids::Ticket;
@@ -25,7 +26,8 @@ pub struct Net {
 // What a start, a call or a return answers; a refusal by its number in document 01.
 pub enum CommandAnswer {
     Active,
-    Waiting,
+    // The level in the way: the highest full one at or below the call's own.
+    Waiting(Level),
     // The ticket that was admitted, or none.
     Ended(Ticket),
     Refused(u8),

@@ -1,13 +1,11 @@
 -- `book::admission` meets its contract: a refused walk or a level too high gets the refusal, and otherwise the level is compared with the walk's
--- end. Assumes nothing.
+-- end, from where on the level in the way is told. Assumes nothing.
 use mathlib.Core.Path.{_≡_, sym, _∙_}
-use mathlib.Core.Bool.{true, false}
 use denote.Ref.{now}
-use borrow.Author.Needs.{needs}
-use borrow.Author.Tests.{lt-ltb, le-ltb}
 use Rattle.tree.specs.Descent.{descent}
 use Rattle.tree.specs.declared.Descent.{Descent}
-use Rattle.book.proofs.BookLaws.{admission-refused, admission-beyond, admission-below}
+use Rattle.book.proofs.BookLaws.{admission-refused, admission-beyond, admission-below, admission-waits, asked}
+use borrow.Author.Needs.{needs}
 use Rattle.book.proofs.admission.Statement.{statement}
 use Rattle.book.proofs.admission.Tie as tie
 
@@ -28,14 +26,30 @@ returns-3 : tie.Need-returns-3
 returns-3 c =
     let below = c .before .before .before in
     let at-end = below .before .before .before in
-    admission-below _ _ _ (ended at-end) _ true (below .if1 .left) (lt-ltb _ _ (c .if2 .taken))
+    admission-below _ _ _ (ended at-end) _ (below .if1 .left) (c .if2 .taken)
+
+blocking-requires : tie.Need-blocking-requires
+blocking-requires c κs =
+    let below = c .before .before .before in
+    let at-end = below .before .before .before in
+    asked _ _ _ (ended at-end) _ (below .if1 .left)
 
 returns-4 : tie.Need-returns-4
 returns-4 c =
-    let below = c .before .before .before in
+    let held-back = c .before in
+    let below = held-back .before .before .before in
     let at-end = below .before .before .before in
-    admission-below _ _ _ (ended at-end) _ false (below .if1 .left) (le-ltb _ _ (c .if2 .left))
+    admission-waits _ _ _ (ended at-end) _ (below .if1 .left) (held-back .if2 .left) _ (c .blocking .ensures)
 
 pub admission-spec : {M : Type 1} → statement M
 admission-spec =
-    tie.close (tie.spec (λ c κs. search needs) (λ c. search needs) (λ c. search needs) returns returns-2 returns-3 returns-4)
+    tie.close
+    (tie.spec
+    (λ c κs. search needs)
+    (λ c. search needs)
+    (λ c. search needs)
+    returns
+    returns-2
+    returns-3
+    blocking-requires
+    returns-4)

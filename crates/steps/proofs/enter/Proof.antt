@@ -5,7 +5,7 @@ use Rattle.model.specs.Command.{fault}
 use Rattle.steps.specs.Running.{entering}
 use Rattle.steps.proofs.SeenLaws.{call-seen}
 use Rattle.steps.proofs.StandLaws.{refused-runs}
-use Rattle.steps.proofs.EnterLaws.{node-there, site-there, room-left, can-open, entered}
+use Rattle.steps.proofs.EnterLaws.{node-there, site-there, room-left, can-open, entry-ranged, entered}
 use borrow.Author.Needs.{needs}
 use Rattle.steps.proofs.enter.Statement.{statement}
 use Rattle.steps.proofs.enter.Tie as tie
@@ -79,14 +79,23 @@ add-t28 c =
     let there = passed (opening c .before) in
     omega (arith, room-left (start there .pre .1) _ _ _ (told there) (there .if1 .left))
 
+entered-requires : tie.Need-entered-requires
+entered-requires c κs =
+    let opened = opening (c .before) in
+    let there = passed (opened .before) in
+    let ok = start there .pre .1 in
+    let said = told there in
+    let passes = there .if1 .left in
+    entry-ranged ok _ _ _ said passes _ _ (opened .«open» .ensures _ _ (can-open ok _ _ _ said passes) .1)
+
 returns-2 : tie.Need-returns-2
 returns-2 c =
-    let opened = opening (c .before) in
+    let opened = opening (c .before .before) in
     let there = passed (opened .before) in
     λ net ok.
     let said = there .before .entry-fault .ensures _ _ (call-seen (ok .running)) in
     let passes = there .if1 .left in
-    entered ok _ _ _ said passes (c .letter .ensures) (opened .«open» .ensures _ _ (can-open ok _ _ _ said passes))
+    entered ok _ _ _ said passes (c .entered .ensures) (opened .«open» .ensures _ _ (can-open ok _ _ _ said passes))
 
 pub enter-spec : {M : Type 1} → statement M
 enter-spec =
@@ -103,7 +112,7 @@ enter-spec =
     shared-slice-read-most
     open-requires
     add-t28
-    (λ c κs. search needs)
+    entered-requires
     (λ c. search needs)
     (λ c. search needs)
     (λ c. search needs)

@@ -3,9 +3,9 @@ use native.Mathlib.Omega.{arith}
 use mathlib.Core.Path.{refl}
 use lib.ListN.{length-set}
 use Rattle.text.specs.Room.{number-room}
-use Rattle.text.proofs.PutLaws.{put-2, put-3, put-then, put-store, put-as, put-long, room-left}
+use Rattle.text.proofs.PutLaws.{put-3, put-store, put-as, room-left}
 use Rattle.text.proofs.DigitLaws.{spaced-most}
-use Rattle.text.proofs.LineLaws.{letter-ends, number-ends, refused-ends}
+use Rattle.text.proofs.LineLaws.{letter-ends, number-ends, refused-ends, waits-ends}
 use borrow.Author.Needs.{needs}
 use Rattle.text.proofs.answer.Statement.{statement}
 use Rattle.text.proofs.answer.Tie as tie
@@ -39,33 +39,13 @@ returns-2 c =
     let known = told .before .before .before in
     put-as (number-ends _ (known .what2 .given .1)) (put-store _ _ _ refl refl (slice-write-text-4 c) (told .number .ensures))
 
--- A refusal
-
-slice-write-text-6 : tie.Need-slice-write-text-6
-slice-write-text-6 c = simp length-set (omega arith)
-
-number-requires-2 : tie.Need-number-requires-2
-number-requires-2 c κs = simp length-set (omega arith)
-
-slice-write-text-7 : tie.Need-slice-write-text-7
-slice-write-text-7 c =
-    let told = c .before .before in
-    let small = told .before .before .known-told3 .given in
-    let room = room-left number-room 1 (told .number2 .ensures) (spaced-most _ (omega (arith, small))) (simp length-set (omega arith)) in
-    omega arith
-
-add-result-3 : tie.Need-add-result-3
-add-result-3 c = omega (arith, slice-write-text-7 c, simp length-set at (put-long (c .before .before .number2 .ensures)))
+-- A refusal, or a level in the way
 
 returns-3 : tie.Need-returns-3
-returns-3 c =
-    let told = c .before .before in
-    let known = told .before .before .before in
-    put-as (refused-ends _ (known .what3 .given .1))
-    (put-store _ _ _ refl refl (slice-write-text-7 c) (put-then (put-2 _ _ _ _ (omega arith)) (told .number2 .ensures)))
+returns-3 c = let at-mark = c .before .before in put-as (refused-ends _ (at-mark .before .before .before .what3 .given .1)) (at-mark .marked .ensures)
 
-same-length-3 : tie.Need-same-length-3
-same-length-3 c = put-long (returns-3 c)
+returns-4 : tie.Need-returns-4
+returns-4 c = let at-mark = c .before .before in put-as (waits-ends _ (at-mark .before .before .before .what4 .given .1)) (at-mark .marked2 .ensures)
 
 pub answer-spec : {M : Type 1} → statement M
 answer-spec =
@@ -83,17 +63,14 @@ answer-spec =
     slice-write-text-4
     add-result-2
     (λ c. search needs)
+    (λ c κs. search needs)
     (λ c. search needs)
-    (λ c. search needs)
-    slice-write-text-6
-    (λ c. search needs)
-    (λ c. search needs)
-    number-requires-2
-    slice-write-text-7
-    add-result-3
+    (λ c κs. search needs)
     (λ c. search needs)
     returns
     (λ c. search needs)
     returns-2
-    same-length-3
-    returns-3)
+    (λ c. search needs)
+    returns-3
+    (λ c. search needs)
+    returns-4)
