@@ -39,9 +39,9 @@ loop-again c =
     let same : k ≡ k + 1 - 1 = omega arith in (
       omega arith,
       c .smaller .ensures
-      ∙ ap (λ (n : ℕ). min n (all k)) (at-loop .loop .inv .1)
-      ∙ smallest-next k all
-      ∙ ap (λ (n : ℕ). smallest n all) same,
+          ∙ ap (λ (n : ℕ). min n (all k)) (at-loop .loop .inv .1)
+          ∙ smallest-next k all
+          ∙ ap (λ (n : ℕ). smallest n all) same,
     )
 
 returns : tie.Need-returns Inv-loop μ-loop
