@@ -356,10 +356,15 @@ static inline int ask(uint16_t ticket) {
     return at < 0 ? ABSENT : net.ranks[at] < ACTIVE ? WAITS : IS_ACTIVE;
 }
 
-/* The room, or a refusal less 100. */
+/* The room, which is the smallest number up to the level, or a refusal less 100. */
 static inline int room(uint8_t site, uint8_t level) {
     if (level >= threads[site]) return 30 - 100;
-    return (int)(net.rooms[site][level / 8] >> (8 * (level % 8)) & 255);
+    int least = 64;
+    for (int k = 0; k <= level; k++) {
+        int spare = (int)(net.rooms[site][k / 8] >> (8 * (k % 8)) & 255);
+        if (spare < least) least = spare;
+    }
+    return least;
 }
 
 /* The text. */

@@ -128,7 +128,10 @@ impl Way for Rooms {
 
     #[inline(always)]
     fn room(&self, site: usize, level: u8) -> u8 {
-        (self.0[site][usize::from(level / 8 & 7)] >> (8 * (level % 8))) as u8
+        let (rooms, last) = (&self.0[site], usize::from(level / 8 & 7));
+        let least = rooms[..last].iter().flat_map(|word| word.to_le_bytes()).fold(64, u8::min);
+        let part = rooms[last].to_le_bytes();
+        part[..=usize::from(level & 7)].iter().fold(least, |least, room| least.min(*room))
     }
 
     /// Goes by 64 until the ticket is met or no more than 32 are left.

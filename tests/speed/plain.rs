@@ -106,7 +106,7 @@ impl Way for Rooms {
 
     #[inline(always)]
     fn room(&self, site: usize, level: u8) -> u8 {
-        self.0[site][usize::from(level / 16)][usize::from(level % 16)]
+        self.0[site].as_flattened()[..=usize::from(level & 63)].iter().fold(255, |least, room| least.min(*room))
     }
 
     #[inline(always)]

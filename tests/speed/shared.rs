@@ -22,7 +22,7 @@ pub trait Way {
     fn give(&mut self, site: usize, level: u8, limit: &mut u8, threads: u8);
     /// The highest level up to this one without room; there is one.
     fn blocking(&self, site: usize, level: u8) -> u8;
-    /// The room at a level below T.
+    /// The room at a level below T: the smallest number up to it.
     fn room(&self, site: usize, level: u8) -> u8;
     /// The place of a ticket, which is not 0.
     fn find(tickets: &[u16; PLACES], open: usize, ticket: u16) -> Option<usize>;

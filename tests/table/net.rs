@@ -297,17 +297,35 @@ impl Net {
         }
     }
 
-    /// "The room at level k is T - k - A[k]"; 30: "an unlisted site, or a level not below its threads".
+    /// 02, 3/14: "the number of calls of level k that could be admitted one after another with no return between"; 30: "an unlisted
+    /// site, or a level not below its threads".
     pub fn room(&self, site: u8, level: u8) -> Answer {
         match self.plan.threads(site) {
-            Some(t) if level < t => {
-                let room = |k: u8| i64::from(t) - i64::from(k) - at_or_above(&self.counts(site), k as usize);
-                match self.wrong {
-                    Wrong::RoomGloss => Answer::Room((0..=level).map(room).min().unwrap()),
-                    _ => Answer::Room(room(level)),
-                }
-            }
+            Some(t) if level < t => Answer::Room(self.wrong_room(t, site, level).unwrap_or_else(|| self.fitting(t, site, level))),
             _ => Answer::Refused(30),
+        }
+    }
+
+    /// Admits calls of the level one after another and counts them.
+    fn fitting(&self, threads: u8, site: u8, level: u8) -> i64 {
+        let mut counts = self.counts(site);
+        let mut fit = 0;
+        while fit < 64 && admissible(threads, &counts, level, self.wrong) {
+            counts[usize::from(level)] += 1;
+            fit += 1;
+        }
+        fit
+    }
+
+    fn wrong_room(&self, threads: u8, site: u8, level: u8) -> Option<i64> {
+        let counts = self.counts(site);
+        let spare = |k: u8| i64::from(threads) - i64::from(k) - at_or_above(&counts, usize::from(k));
+        match self.wrong {
+            Wrong::RoomFormula => Some(spare(level)),
+            Wrong::RoomBelow => (0..level).map(spare).min().or(Some(spare(level))),
+            Wrong::RoomAllLevels => (0..threads).map(spare).min(),
+            Wrong::RoomZeroOff if level == 0 => Some(spare(0) - 1),
+            _ => None,
         }
     }
 

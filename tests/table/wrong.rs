@@ -78,8 +78,14 @@ pub enum Wrong {
     DoneAccepted,
     /// A cut command is no fault.
     CutDone,
-    /// A room says how many more can be admitted, not the formula.
-    RoomGloss,
+    /// A room is 01's formula, T - k - A[k].
+    RoomFormula,
+    /// A room is the smallest over the levels below alone.
+    RoomBelow,
+    /// A room is the smallest over all levels.
+    RoomAllLevels,
+    /// The room at level 0 is one too small.
+    RoomZeroOff,
     /// Two-byte numbers low byte first.
     LowByteFirst,
     /// After a taking back the call that has waited longest at the site becomes active.
@@ -110,7 +116,7 @@ pub enum Wrong {
     Early(List, u8, u8),
 }
 
-pub const ALL: [(&str, Wrong); 66] = [
+pub const ALL: [(&str, Wrong); 69] = [
     ("bad-p", Wrong::BadP),
     ("first-waiter", Wrong::FirstWaiter),
     ("strict-levels", Wrong::StrictLevels),
@@ -143,7 +149,10 @@ pub const ALL: [(&str, Wrong); 66] = [
     ("bad-offset", Wrong::BadOffset),
     ("done-accepted", Wrong::DoneAccepted),
     ("cut-done", Wrong::CutDone),
-    ("room-gloss", Wrong::RoomGloss),
+    ("room-formula", Wrong::RoomFormula),
+    ("room-below", Wrong::RoomBelow),
+    ("room-all-levels", Wrong::RoomAllLevels),
+    ("room-zero-off", Wrong::RoomZeroOff),
     ("low-byte-first", Wrong::LowByteFirst),
     ("back-serves", Wrong::BackServes),
     ("back-active", Wrong::BackActive),

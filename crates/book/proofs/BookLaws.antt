@@ -2,20 +2,22 @@
 -- the walk ends at the limit, below which lie the levels that may be admitted. Assumes nothing.
 use Prim.Native.Nat.{ℕ, suc, _-_, _≤_, _<_}
 use native.Mathlib.Omega.{arith}
-use borrow.Author.Tests.{lt-ltb, le-ltb, le-leb, lt-leb, eq-eqb}
+use borrow.Author.Tests.{lt-ltb, le-ltb, le-leb, lt-leb}
 use mathlib.Core.Path.{_≡_, refl, sym, ap, ap₂, _∙_}
 use mathlib.Core.Bool.{Bool, true, false, cond}
 use mathlib.Core.List.{List, [], _∷_}
 use lib.Dec.{ltb, eqb}
 use lib.ListN.{length}
 use Rattle.ids.specs.Limits.{most-threads}
-use Rattle.model.specs.Site.{A, refuses-site, limit, may-admit, blocking, room}
+use Rattle.lists.specs.Count.{smallest}
+use Rattle.model.specs.Site.{refuses-site, limit, may-admit, blocking, spare}
 use Rattle.model.specs.Tree.{from-root}
 use Rattle.model.specs.Answers.{site-refusal, level-refusal, level-answer, admission-answer, room-answer, firmware}
 use Rattle.model.specs.declared.Walked.{Walked}
-use Rattle.model.proofs.SiteLaws.{Accepted, accepted, lawful-at}
+use Rattle.model.proofs.SiteLaws.{Accepted, accepted}
 use Rattle.model.proofs.TreeLaws.{from-root-is}
 use Rattle.model.proofs.RuleLaws.{admits-below}
+use Rattle.model.proofs.RoomLaws.{room-is}
 use Rattle.tree.specs.Descent.{descent}
 use Rattle.tree.specs.declared.Descent.{Descent}
 use Rattle.book.specs.Asked.{Asked}
@@ -101,14 +103,8 @@ module _ (T : ℕ) (a : List ℕ) where
     unfolding room-answer
     room-beyond k h = rw (told .0, le-leb T k h)
 
-    -- the calls from level k on, as they are counted
-    module _ (k n : ℕ) (h : k < T) (c : n ≡ cond (eqb (length a) most-threads) (A a k) 0) where
-      counted : n ≡ A a k
-      counted = c ∙ ap (λ (b : Bool). cond b (A a k) 0) (eq-eqb (length a) most-threads (site .long))
-
-      pub room-fits : n ≤ T - k
-      room-fits = omega (arith, counted, lawful-at T a (site .law) k h)
-
-      pub room-below : 0 ∷ (T - k - n) ∷ [] ≡ room-answer T a k
-      unfolding room-answer room
-      room-below = rw (told .0, lt-leb T k h) (ap (λ (m : ℕ). 0 ∷ (T - k - m) ∷ []) counted)
+    pub room-below : (k : ℕ) → k < T → (n : ℕ) → n ≡ smallest k (spare T a) → 0 ∷ n ∷ [] ≡ room-answer T a k
+    unfolding room-answer
+    room-below k h n e =
+        rw (told .0, lt-leb T k h)
+        (ap (λ (m : ℕ). 0 ∷ m ∷ []) (e ∙ sym (room-is T k h a (omega (arith, site .most, site .long)) (site .law))))

@@ -1,2 +1,2 @@
-mod DownLaws
+mod ReadLaws
 mod BookLaws

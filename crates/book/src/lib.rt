@@ -1,7 +1,9 @@
 // The site book: which levels may be admitted at a site with some threads and some active calls. Every function takes the thread count and the
 // 64 counts of active calls by level, and answers a refusal where they are not those of a lawful site.
 ghost use mathlib.Core.Path.{_≡_};
-ghost use Rattle.model.specs.Site.{blocking};
+ghost use Prim.Native.Nat.{min};
+ghost use Rattle.lists.specs.Count.{smallest};
+ghost use Rattle.model.specs.Site.{blocking, spare};
 ghost use Rattle.book.specs.Asked.{Asked};
 ghost use Rattle.model.specs.Answers.{toldLevel, toldAdmission, toldRoom, level-answer, admission-answer, room-answer, firmware};
 use ids::Level;
@@ -61,7 +63,29 @@ pub fn admission(threads: u8, counts: &[u8], asked: Level) -> AdmissionAnswer
     AdmissionAnswer::Waits(Level(blocking(threads, counts, asked.0)))
 }
 
-// The status page's figure for a level.
+fn smaller(a: usize, b: usize) -> usize
+    ensures { λ r. ⌜ r ≡ min a b ⌝ }
+{
+    if a < b { a } else { b }
+}
+
+// The smallest T - k - A[k] up to a level, with the calls at or above each level counted along.
+fn least_spare(threads: u8, counts: &[u8], wanted: u8) -> u8
+    requires { ⌜ Asked threads (now counts) wanted ⌝ }
+    ensures { λ r. ⌜ r ≡ smallest wanted (spare threads (now (counts .entry))) ⌝ }
+{
+    let mut active = tree::calls_from(0, counts);
+    let mut least = threads as usize - active;
+    let mut k: u8 = 0;
+    while k < wanted {
+        active -= counts[k as usize] as usize;
+        k += 1;
+        least = smaller(least, (threads - k) as usize - active);
+    }
+    least as u8
+}
+
+// The status page's figure for a level: how many calls of it could be admitted one after another.
 pub fn room(threads: u8, counts: &[u8], wanted: Level) -> RoomAnswer
     ensures { λ r. ⌜ toldRoom r ≡ room-answer threads (now (counts .entry)) (wanted .0) ⌝ }
 {
@@ -72,8 +96,7 @@ pub fn room(threads: u8, counts: &[u8], wanted: Level) -> RoomAnswer
     if threads <= wanted.0 {
         return RoomAnswer::NoSuchLevel;
     }
-    let active = tree::calls_from(wanted.0 as usize, counts);
-    RoomAnswer::Room(((threads - wanted.0) as usize - active) as u8)
+    RoomAnswer::Room(least_spare(threads, counts, wanted.0))
 }
 
 // The level answer for the switch's C firmware: the highest admissible level plus 1, 0 for none, or 255 as a refusal. The thread count is a word,

@@ -1,6 +1,6 @@
 -- Laws of tests over the numbers below a bound, of the least number that passes one, and of sums: by induction over the bound or the list.
 -- Assumes nothing.
-use Prim.Native.Nat.{ℕ, zero, suc, _+_, _-_, _≤_, _<_, zero-le, suc-le-suc}
+use Prim.Native.Nat.{ℕ, zero, suc, _+_, _-_, _≤_, _<_, min, zero-le, suc-le-suc}
 use native.Mathlib.Nat.{not-suc-le-zero, le-of-suc-le-suc, eq-or-lt-of-le}
 use native.Mathlib.Omega.{arith}
 use mathlib.Core.Path.{_≡_, refl, sym, ap, ap₂, subst, _∙_}
@@ -8,7 +8,7 @@ use mathlib.Core.Logic.{_⊎_, inl, inr, ⊎-elim, _↔_}
 use mathlib.Core.Bool.{Bool, true, false, not, _&&_, _||_, cond}
 use mathlib.Core.List.{List, [], _∷_}
 use lib.ListN.{length, getD, drop, set}
-use Rattle.lists.specs.Count.{sum, every, first, last}
+use Rattle.lists.specs.Count.{sum, every, first, last, smallest}
 
 -- Cases
 pub lt-or-ge : (a b : ℕ) → (a < b) ⊎ (b ≤ a)
@@ -199,6 +199,39 @@ last-holds (suc n) f k l t = go (f n) refl (λ p. last-holds n f k p t)
           omega (arith, w .1),
           λ j h q. ⊎-elim (λ (r : j ≡ n). subst (λ (m : ℕ). f m ≡ false) (sym r) e) (λ (r : j < n). w .2 j h r) (eq-or-lt-of-le (le-of-suc-le-suc q)),
         )
+
+-- The smallest of some numbers
+pub smallest-le : (n : ℕ) (f : ℕ → ℕ) (k : ℕ) → k ≤ n → smallest n f ≤ f k
+unfolding smallest
+smallest-le zero f k h = let e : k ≡ 0 = omega arith in omega (arith, ap f e)
+smallest-le (suc n) f k h =
+    ⊎-elim
+    (λ (e : k ≡ suc n). omega (arith, ap f e))
+    (λ (l : k < suc n). omega (arith, smallest-le n f k (le-of-suc-le-suc l)))
+    (eq-or-lt-of-le h)
+
+-- one number more, the first one perhaps twice
+pub smallest-next : (k : ℕ) (f : ℕ → ℕ) → min (smallest (k - 1) f) (f k) ≡ smallest k f
+unfolding smallest
+smallest-next zero f = omega arith
+smallest-next (suc k) f = let down : suc k - 1 ≡ k = omega arith in ap (λ (n : ℕ). min (smallest n f) (f (suc k))) down
+
+pub smallest-same : (n : ℕ) (f g : ℕ → ℕ) → ((k : ℕ) → k ≤ n → f k ≡ g k) → smallest n f ≡ smallest n g
+unfolding smallest
+smallest-same zero f g same = same 0 (omega arith)
+smallest-same (suc n) f g same = ap₂ min (smallest-same n f g (λ k h. same k (omega arith))) (same (suc n) (omega arith))
+
+-- one less of each is one less of the smallest
+pub smallest-less : (n : ℕ) (f g : ℕ → ℕ) → ((k : ℕ) → k ≤ n → g k ≡ f k - 1) → smallest n g ≡ smallest n f - 1
+unfolding smallest
+smallest-less zero f g less = less 0 (omega arith)
+smallest-less (suc n) f g less = omega (arith, smallest-less n f g (λ k h. less k (omega arith)), less (suc n) (omega arith))
+
+-- and what is below each is below the smallest
+pub smallest-above : (n : ℕ) (f : ℕ → ℕ) (m : ℕ) → ((k : ℕ) → k ≤ n → m ≤ f k) → m ≤ smallest n f
+unfolding smallest
+smallest-above zero f m each = each 0 (omega arith)
+smallest-above (suc n) f m each = omega (arith, smallest-above n f m (λ k h. each k (omega arith)), each (suc n) (omega arith))
 
 -- Sums of what is left of a list
 pub sum-drop-step : (a : List ℕ) (k : ℕ) → sum (drop k a) ≡ getD a k 0 + sum (drop (suc k) a)

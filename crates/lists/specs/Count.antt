@@ -1,5 +1,5 @@
 -- Tests over the numbers below a bound, and sums of a list. Assumes nothing.
-use Prim.Native.Nat.{ℕ, zero, suc, _+_}
+use Prim.Native.Nat.{ℕ, zero, suc, _+_, min}
 use mathlib.Core.Bool.{Bool, true, false, _&&_, _||_, cond}
 use mathlib.Core.List.{List, [], _∷_}
 
@@ -22,6 +22,11 @@ first (suc n) f = cond (f 0) 0 (suc (first n (λ k. f (suc k))))
 unfoldable pub last : ℕ → (ℕ → Bool) → ℕ
 last zero f = 0
 last (suc n) f = cond (f n) n (last n f)
+
+-- the smallest of f 0 to f n
+unfoldable pub smallest : ℕ → (ℕ → ℕ) → ℕ
+smallest zero f = f 0
+smallest (suc n) f = min (smallest n f) (f (suc n))
 
 -- the test holds of some number below n
 unfoldable pub some : ℕ → (ℕ → Bool) → Bool

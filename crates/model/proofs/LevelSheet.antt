@@ -9,9 +9,9 @@ use borrow.Author.Tests.{eqb-true}
 use Rattle.lists.proofs.CountLaws.{never-both, and-left, and-right}
 use Rattle.ids.specs.Made.{Told}
 use Rattle.lists.specs.Count.{first, last}
-use Rattle.model.specs.Site.{A, lawful, raised, may-admit, full, limit, blocking, refuses-site}
+use Rattle.model.specs.Site.{A, lawful, raised, may-admit, full, limit, blocking, admitted, room, refuses-site}
 use Rattle.model.specs.Answers.{firmware, admission-answer}
-use Rattle.model.specs.LevelSheet.{Case, site, waits, plan, counts-of, Holds, table}
+use Rattle.model.specs.LevelSheet.{Case, site, waits, rooms, plan, counts-of, rooms-of, Holds, table}
 use Rattle.model.specs.House.{next}
 use Rattle.model.specs.Plan.{threads, place, has-edge, edges, follows, in-range, known, level-below}
 use Rattle.model.specs.Plan.{room-for, record-fault, site-steps, listed, closed-backwards, loops, self-depends, end-fault, bytes-of}
@@ -35,6 +35,7 @@ told-exactly (b ∷ bs) (n ∷ ns) e =
 test : Case → Bool
 test (site threads active number) = eqb (firmware threads (counts-of active)) number
 test (waits threads active asked blocked-by) = told-is (admission-answer threads (counts-of active) asked) (0 ∷ 0 ∷ blocked-by ∷ [])
+test (rooms threads active all) = told-is (rooms-of threads (counts-of active) threads 0) all
 test (plan bytes number place) = told-is (reading-told (read bytes)) (number ∷ place ∷ [])
 
 tests : List Case → Bool
@@ -50,6 +51,7 @@ passes : (c : Case) → test c ≡ true → Holds c
 unfolding test
 passes (site threads active number) e = eqb-true (firmware threads (counts-of active)) number e
 passes (waits threads active asked blocked-by) e = told-exactly (admission-answer threads (counts-of active) asked) (0 ∷ 0 ∷ blocked-by ∷ []) e
+passes (rooms threads active all) e = told-exactly (rooms-of threads (counts-of active) threads 0) all e
 passes (plan bytes number place) e = told-exactly (reading-told (read bytes)) (number ∷ place ∷ []) e
 
 all-pass : (cs : List Case) → tests cs ≡ true → All cs
@@ -58,7 +60,7 @@ all-pass [] e = tt
 all-pass (c ∷ cs) e = (passes c (and-left (test c) (tests cs) e), all-pass cs (and-right (test c) (tests cs) e))
 
 computed : tests table ≡ true
-unfolding first last tests test told-is firmware admission-answer may-admit blocking refuses-site limit lawful full A raised read read-on next
+unfolding first last tests test told-is firmware admission-answer may-admit blocking admitted room refuses-site limit lawful full A raised read read-on next
     threads place has-edge edges follows in-range known level-below room-for record-fault site-steps listed
     closed-backwards loops self-depends end-fault bytes-of
 computed = refl

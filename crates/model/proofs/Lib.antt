@@ -1,6 +1,7 @@
 pub mod SiteLaws
 pub mod RuleLaws
 pub mod BlockingLaws
+pub mod RoomLaws
 pub mod PaperLaws
 pub mod TreeLaws
 pub mod AnswerLaws

@@ -1,10 +1,10 @@
 -- The level sheet of document 01: its cases marked P, in one table. Assumes nothing.
-use Prim.Native.Nat.{ℕ}
+use Prim.Native.Nat.{ℕ, zero, suc}
 use mathlib.Core.Path.{_≡_}
 use mathlib.Core.List.{List, [], _∷_, _++_}
 use lib.ListN.{replicate}
 use Rattle.ids.specs.Limits.{most-threads}
-use Rattle.model.specs.Site.{put}
+use Rattle.model.specs.Site.{put, room}
 use Rattle.model.specs.Answers.{firmware, admission-answer}
 use Rattle.model.specs.Reading.{read}
 use Rattle.model.specs.PlanValue.{reading-told}
@@ -15,6 +15,8 @@ pub data Case : Type 0 where
   site : ℕ → List ℕ → ℕ → Case
   -- threads, the levels of the active calls, the level of one more that waits, and the level in its way
   waits : ℕ → List ℕ → ℕ → ℕ → Case
+  -- threads, the levels of the active calls, and the room of each level from 0 on
+  rooms : ℕ → List ℕ → List ℕ → Case
   -- plan bytes, and what the reading tells: 0 and the bytes used, or the refusal and its offset
   plan : List ℕ → ℕ → ℕ → Case
 
@@ -22,10 +24,16 @@ pub data Case : Type 0 where
 abbrev pub counts-of : List ℕ → List ℕ
 counts-of active = put (replicate most-threads 0) active
 
+-- the rooms of so many levels from k on
+abbrev pub rooms-of : ℕ → List ℕ → ℕ → ℕ → List ℕ
+rooms-of T a zero k = []
+rooms-of T a (suc n) k = room T a k ∷ rooms-of T a n (suc k)
+
 -- what a line says of the definitions
 abbrev pub Holds : Case → Type 0
 Holds (site threads active number) = firmware threads (counts-of active) ≡ number
 Holds (waits threads active asked blocked-by) = admission-answer threads (counts-of active) asked ≡ 0 ∷ 0 ∷ blocked-by ∷ []
+Holds (rooms threads active all) = rooms-of threads (counts-of active) threads 0 ≡ all
 Holds (plan bytes number place) = reading-told (read bytes) ≡ number ∷ place ∷ []
 
 -- two sites of 2 threads; nodes 0 at site 0, 1 and 2 at site 1, 3 at site 0; edges 0 to 1 and 2 to 3; all levels 0 but that of node 2
@@ -54,9 +62,14 @@ table =
     ∷ site 10 (1 ∷ 2 ∷ 4 ∷ 4 ∷ 4 ∷ 5 ∷ 6 ∷ 9 ∷ []) 4
     -- less a 4 as well: 8
     ∷ site 10 (1 ∷ 2 ∷ 4 ∷ 4 ∷ 5 ∷ 6 ∷ 9 ∷ []) 9
+    -- 02, 3/14: the rooms of both
+    ∷ rooms 10 (1 ∷ 2 ∷ 4 ∷ 4 ∷ 4 ∷ 5 ∷ 6 ∷ 9 ∷ []) (2 ∷ 1 ∷ 1 ∷ 1 ∷ 0 ∷ 0 ∷ 0 ∷ 0 ∷ 0 ∷ 0 ∷ [])
+    ∷ rooms 10 (1 ∷ 2 ∷ 4 ∷ 4 ∷ 5 ∷ 6 ∷ 9 ∷ []) (3 ∷ 2 ∷ 2 ∷ 2 ∷ 1 ∷ 1 ∷ 1 ∷ 1 ∷ 1 ∷ 0 ∷ [])
     -- T = 3, active 1 1: highest 0, so level 2 waits
     ∷ site 3 (1 ∷ 1 ∷ []) 1
     ∷ waits 3 (1 ∷ 1 ∷ []) 2 1
+    -- and the status page says so: no more call of level 2 goes in
+    ∷ rooms 3 (1 ∷ 1 ∷ []) (1 ∷ 0 ∷ 0 ∷ [])
     -- T = 1, none active: 0
     ∷ site 1 [] 1
     -- T = 1, active 0: none

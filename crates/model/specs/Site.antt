@@ -1,8 +1,8 @@
 -- The site book: document 01, "The site book", and section 3.1 of the paper.
 -- `T` is the number of threads of the site, and `a` lists its active calls by level: `getD a k 0` is a[k]. Assumes nothing.
-use Prim.Native.Nat.{ℕ, suc, _-_, _≤_, _<_}
+use Prim.Native.Nat.{ℕ, zero, suc, _-_, _≤_, _<_}
 use mathlib.Core.Path.{_≡_}
-use mathlib.Core.Bool.{Bool, true, false, not, _&&_, _||_}
+use mathlib.Core.Bool.{Bool, true, false, not, _&&_, _||_, cond}
 use mathlib.Core.List.{List, [], _∷_}
 use lib.ListN.{length, getD, drop, set}
 use lib.Dec.{leb, ltb, eqb}
@@ -49,9 +49,18 @@ pub record InTheWay (T : ℕ) (a : List ℕ) (i k : ℕ) : Type 0 where
   pub at-or-below : k ≤ i
   pub none-between : (j : ℕ) → k < j → j ≤ i → full T a j ≡ false
 
--- "The room at level k, for the status page, is T - k - A[k]"
+-- "T - k - A[k]": how far level k is from full. 01 called it the room at level k; 02, 3/14: "Document 01 looks at one level's sum"
+unfoldable pub spare : ℕ → List ℕ → ℕ → ℕ
+spare T a k = T - k - A a k
+
+-- 02, 3/14: "the number of calls of level k that could be admitted one after another with no return between", of so many at the most
+unfoldable pub admitted : ℕ → ℕ → List ℕ → ℕ → ℕ
+admitted zero T a k = 0
+admitted (suc tries) T a k = cond (may-admit T a k) (suc (admitted tries T (raised a k) k)) 0
+
+-- the room at level k: no more calls than threads can be admitted. "which is the smallest T - j - A[j] over j from 0 to k" (`room-is`, of RoomLaws)
 unfoldable pub room : ℕ → List ℕ → ℕ → ℕ
-room T a k = T - k - A a k
+room T a k = admitted T T a k
 
 -- "threads 0 or above 64, length not 64, a count above zero at a level at or above T, or a site that is not lawful"
 unfoldable pub refuses-site : ℕ → List ℕ → Bool

@@ -10,21 +10,22 @@ use lib.ListN.{length, getD}
 use lib.Dec.{leb, eqb}
 use borrow.Author.Tests.{lt-ltb, le-ltb, le-leb, lt-leb, eq-eqb, eqb-true, eqb-false}
 use Rattle.ids.specs.Limits.{sites, most-threads}
-use Rattle.lists.specs.Count.{one, first, last}
+use Rattle.lists.specs.Count.{one, first, last, smallest}
 use Rattle.lists.specs.Fill.{Filled, renewed}
-use Rattle.lists.proofs.CountLaws.{true-or-false, lt-or-ge, same-test, last-same}
+use Rattle.lists.proofs.CountLaws.{true-or-false, lt-or-ge, same-test, last-same, smallest-same}
 use Rattle.lists.proofs.TellLaws.{first-same}
-use Rattle.model.specs.Site.{A, lawful, raised, full, limit, blocking, room}
+use Rattle.model.specs.Site.{A, lawful, raised, full, limit, blocking, spare, room}
 use Rattle.model.specs.Plan.{Record, threads}
 use Rattle.model.specs.NetRules.{Book}
 use Rattle.model.proofs.SiteLaws.{A-one, lawful-at, full-is, is-full}
-use Rattle.rooms.specs.Rooms.{no-room, one-less, one-more, Taking, Giving, Limited}
+use Rattle.model.proofs.RoomLaws.{room-is}
+use Rattle.rooms.specs.Rooms.{room-in, no-room, one-less, one-more, Taking, Giving, Limited}
 use Rattle.moves.specs.Held.{room-byte, RoomsTell}
 
 -- Rooms of one site
 
 pub byte-below : (T : ℕ) (a : List ℕ) (k : ℕ) → k < T → room-byte T a k ≡ T - k - A a k
-unfolding room-byte room
+unfolding room-byte spare
 byte-below T a k h = rw (lt-ltb k T h)
 
 pub byte-above : (T : ℕ) (a : List ℕ) (k : ℕ) → T ≤ k → room-byte T a k ≡ 255
@@ -74,6 +75,14 @@ module _ (rs : List Record) (book : Book) (rooms : List ℕ) (tells : RoomsTell 
     pub rooms-blocking : lawful T (book s) ≡ true → (i : ℕ) → i < T → last (suc i) (no-room rooms base) ≡ blocking T (book s) i
     unfolding blocking
     rooms-blocking law i below = last-same (suc i) (no-room rooms base) (full T (book s)) (λ k h. full-room law k (omega arith))
+
+    -- the room of a level: the smallest up to it
+    pub rooms-smallest : lawful T (book s) ≡ true → T ≤ length (book s) → (i : ℕ) → i < T → smallest i (room-in rooms base) ≡ room T (book s) i
+    unfolding spare
+    rooms-smallest law long i below =
+        smallest-same i (room-in rooms base) (spare T (book s))
+        (λ k h. tells .each s k inside (omega arith) ∙ byte-below T (book s) k (omega arith))
+        ∙ sym (room-is T i below (book s) long law)
 
     -- what has changed at this site alone
     elsewhere-same : (after : List ℕ) (next : Book) (change : ℕ → ℕ) (i : ℕ) → i < most-threads

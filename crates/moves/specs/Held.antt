@@ -8,7 +8,7 @@ use lib.ListN.{length, getD}
 use lib.Dec.{ltb}
 use Rattle.ids.specs.Limits.{sites, most-threads, most-open}
 use Rattle.lists.specs.Pick.{tell, first-place}
-use Rattle.model.specs.Site.{room}
+use Rattle.model.specs.Site.{spare}
 use Rattle.model.specs.Plan.{Record, threads}
 use Rattle.model.specs.Net.{Call, has-node, site-of, level-of, has, counts, ticket-of, admissible, opened, closed, to-wake, woken}
 use Rattle.model.specs.NetRules.{Book}
@@ -32,11 +32,11 @@ node-number c = c .node
 unfoldable pub key-of : List Record → Call → ℕ
 key-of rs c = cond (c .active) 0 (most-threads * site-of rs (c .node) + level-of rs (c .node) + 1)
 
--- the room of a level, or no limit, 255, at or above the threads
+-- how far a level is from full, or no limit, 255, at or above the threads
 unfoldable pub room-byte : ℕ → List ℕ → ℕ → ℕ
-room-byte T a k = cond (ltb k T) (room T a k) 255
+room-byte T a k = cond (ltb k T) (spare T a k) 255
 
--- an array holds the rooms of each site and level
+-- an array holds that of each site and level
 pub record RoomsTell (rs : List Record) (book : Book) (rooms : List ℕ) : Type 0 where
   pub whole : length rooms ≡ sites * most-threads
   pub each : (s k : ℕ) → s < sites → k < most-threads → getD rooms (most-threads * s + k) 0 ≡ room-byte (threads rs s) (book s) k

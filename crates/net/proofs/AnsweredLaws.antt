@@ -147,4 +147,4 @@ module _ (net : Net) where
 
 pub room-seen : (net : Net) {a : Arrays} {used : ℕ} {most-of places levels edges : List ℕ} → Running (core-of net) a used most-of places levels edges
     → RoomSeen (core-of net) (a .rooms) most-of
-room-seen net run = record { pass = run .keeps .plan-passes; of-rooms = run .held .of-rooms; staffed = run .planned .staffed }
+room-seen net run = record { pass = run .keeps .plan-passes; law = run .keeps .sites-lawful; of-rooms = run .held .of-rooms; staffed = run .planned .staffed }

@@ -6,6 +6,10 @@ use lib.ListN.{length, getD}
 use lib.Dec.{eqb}
 use Rattle.ids.specs.Limits.{most-threads}
 
+-- what stands for a level
+abbrev pub room-in : List ℕ → ℕ → ℕ → ℕ
+room-in rooms base k = getD rooms (base + k) 0
+
 -- a level has no room
 unfoldable pub no-room : List ℕ → ℕ → ℕ → Bool
 no-room rooms base k = eqb (getD rooms (base + k) 0) 0

@@ -1,13 +1,13 @@
-// The rooms of each site and level inside a run, T - k - A[k], 255 at or above T: a level is full where its room is 0. An admission takes one from
-// the rooms of its level and those below it, and a return gives it back. The room of level k of a site stands at `base` + k. An inner crate: the
-// library's own crates alone call it.
+// How far each level of each site is from full inside a run, T - k - A[k], 255 at or above T: a level is full where it is 0, and its room is the smallest up
+// to it. An admission takes one from its level and those below it, and a return gives it back. What is level k's of a site stands at `base` + k. An
+// inner crate: the library's own crates alone call it.
 ghost use mathlib.Core.Path.{_≡_};
 ghost use mathlib.Core.Bool.{cond};
 ghost use Prim.Native.Nat.{suc, _+_, min};
 ghost use lib.Dec.{eqb};
-ghost use Rattle.lists.specs.Count.{first, last};
+ghost use Rattle.lists.specs.Count.{first, last, smallest};
 ghost use Rattle.lists.specs.Fill.{Filled, renewed};
-ghost use Rattle.rooms.specs.Rooms.{no-room, one-less, one-more, Taking, Giving, Limited, Ranged};
+ghost use Rattle.rooms.specs.Rooms.{room-in, no-room, one-less, one-more, Taking, Giving, Limited, Ranged};
 use ids::Site;
 
 // A thread is taken by a call of a level.
@@ -73,4 +73,16 @@ pub fn blocking(rooms: &[u8], base: usize, level: u8) -> u8
         k -= 1;
     }
     0
+}
+
+// The room of a level: the smallest number up to it.
+pub fn smallest(rooms: &[u8], base: usize, level: u8) -> u8
+    requires { ⌜ Ranged (now rooms) base level ⌝ }
+    ensures { λ r. ⌜ r ≡ smallest level (room-in (now (rooms .entry)) base) ⌝ }
+{
+    let mut low = rooms[base];
+    for k in 0..level as usize + 1 {
+        low = smaller(low, rooms[base + k]);
+    }
+    low
 }

@@ -1,23 +1,25 @@
--- What the questions answer, by what they find: who is found by a ticket, and the byte of a room. Assumes nothing.
-use Prim.Native.Nat.{ℕ, _+_, _*_, _≤_, _<_}
+-- What the questions answer, by what they find: who is found by a ticket, and the smallest of the rooms up to a level. Assumes nothing.
+use Prim.Native.Nat.{ℕ, _*_, _≤_, _<_}
 use native.Mathlib.Omega.{arith}
 use mathlib.Core.Path.{_≡_, refl, ap, _∙_}
 use mathlib.Core.Logic.{⊎-elim}
 use mathlib.Core.Bool.{Bool, true, false, not, _&&_, cond}
 use mathlib.Core.List.{List}
 use mathlib.Core.Option.{none, some}
-use lib.ListN.{length, getD}
+use lib.ListN.{getD}
 use lib.Dec.{eqb}
 use borrow.Author.Tests.{ne-eqb, lt-ltb, le-ltb}
 use Rattle.ids.specs.Limits.{sites, most-threads}
 use Rattle.lists.proofs.CountLaws.{lt-or-ge}
-use Rattle.model.specs.Site.{room}
+use Rattle.lists.specs.Count.{smallest}
 use Rattle.model.specs.Plan.{Record, threads, six, passes}
 use Rattle.model.specs.Net.{Call, Core, lookup, counts}
 use Rattle.model.specs.Command.{ask, Roomed, room-refused, room-at}
 use Rattle.model.proofs.RecordLaws.{threads-listed, passes-ok}
 use Rattle.model.proofs.PlaceLaws.{threads-most}
-use Rattle.moves.specs.Held.{room-byte}
+use Rattle.model.proofs.CountsLaws.{counts-length}
+use Rattle.rooms.specs.Rooms.{room-in, Ranged}
+use Rattle.moves.proofs.RoomLaws.{rooms-smallest}
 use Rattle.text.specs.declared.Printed.the-variants.{Letter, Number, Refused}
 use Rattle.text.specs.Lines.{of-standing, of-room}
 use Rattle.steps.specs.Running.{RoomSeen}
@@ -72,13 +74,15 @@ module _ {net : Core} {rooms most-of : List ℕ} (seen : RoomSeen net rooms most
       level-small : level < most-threads
       level-small = omega (arith, under, threads-most (net .plan) (seen .pass) site)
 
-      pub room-inside : most-threads * site + level < length rooms
-      room-inside = omega (arith, level-small, seen .of-rooms .whole)
+      pub room-ranged : Ranged rooms (most-threads * site) level
+      room-ranged = record { inside = omega (arith, seen .of-rooms .whole); level-small = level-small }
 
-      pub room-there : Number (getD rooms (most-threads * site + level) 0) ≡ of-room (room-at net site level)
-      unfolding room-at room-byte
-      room-there =
+      pub room-there : (n : ℕ) → n ≡ smallest level (room-in rooms (most-threads * site)) → Number n ≡ of-room (room-at net site level)
+      unfolding room-at
+      room-there n e =
           let T = threads (net .plan) site in
           rw (ne-eqb T 0 (λ z. omega (arith, under)), lt-ltb level T under)
-          (ap Number (seen .of-rooms .each site level inside level-small
-          ∙ ap (λ (b : Bool). cond b (room T (counts (net .plan) (net .calls) site) level) 255) (lt-ltb level T under)))
+          (ap Number
+          (e
+          ∙ rooms-smallest (net .plan) (counts (net .plan) (net .calls)) rooms (seen .of-rooms) site inside (threads-most (net .plan) (seen .pass) site)
+          (seen .law site) (omega (arith, threads-most (net .plan) (seen .pass) site, counts-length (net .plan) site (net .calls))) level under))

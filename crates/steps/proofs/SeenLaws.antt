@@ -27,4 +27,4 @@ module _ {net : Core} {a : Arrays} {used : ℕ} {most-of places levels edges : L
   ask-seen = record { calls-told = ticketed; of-keys = run .held .of-keys }
 
   pub room-seen : RoomSeen net (a .rooms) most-of
-  room-seen = record { pass = run .held .firm .pass; of-rooms = run .held .of-rooms; staffed = run .planned .staffed }
+  room-seen = record { pass = run .held .firm .pass; law = run .held .firm .law; of-rooms = run .held .of-rooms; staffed = run .planned .staffed }

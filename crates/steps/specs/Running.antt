@@ -8,6 +8,7 @@ use Rattle.ids.specs.Limits.{sites, nodes, no-ticket}
 use Rattle.model.specs.Plan.{Record, threads, six, passes}
 use Rattle.model.specs.Net.{Call, Core, has-node, site-of, level-of, counts}
 use Rattle.model.specs.NetRules.{Keeps}
+use Rattle.model.specs.Steady.{Lawful}
 use Rattle.model.specs.Command.{Command, start, call, return, take-back, fault, Outcome, step, ask, room-at}
 use Rattle.moves.specs.Held.{Tells, key-of, RoomsTell, Arrays, arrays, Held}
 use Rattle.faults.specs.Seen.{Listing, Edging, Ticketed, CallSeen}
@@ -100,6 +101,7 @@ Asks tickets keys used ticket what = (net : Core) → AskSeen net tickets keys u
 
 pub record RoomSeen (net : Core) (rooms most-of : List ℕ) : Type 0 where
   pub pass : passes six (net .plan) ≡ true
+  pub law : Lawful (net .plan) (net .calls)
   pub of-rooms : RoomsTell (net .plan) (counts (net .plan) (net .calls)) rooms
   pub staffed : Staffed (net .plan) most-of
 

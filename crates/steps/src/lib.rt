@@ -219,7 +219,7 @@ pub fn ask<'a>(tickets: &'a [u16], keys: &'a [u16], used: usize, ticket: u16) ->
     Printed::Letter(b'A')
 }
 
-// The room of a level, or 30.
+// The room of a level: how many calls of it could go in one after another; or 30.
 pub fn room<'a>(rooms: &'a [u8], threads: &'a [u8], site: u8, level: u8) -> Printed
     requires { ⌜ ((net : Core) × RoomSeen net (now rooms) (now threads)) ⌝ }
     ensures { λ r. ⌜ RoomAsked (now (rooms .entry)) (now (threads .entry)) site level r ⌝ }
@@ -230,5 +230,5 @@ pub fn room<'a>(rooms: &'a [u8], threads: &'a [u8], site: u8, level: u8) -> Prin
     if level >= threads[site as usize] {
         return Printed::Refused(30);
     }
-    Printed::Number(rooms[Site::THREADS * site as usize + level as usize] as u16)
+    Printed::Number(rooms::smallest(rooms, Site::THREADS * site as usize, level) as u16)
 }

@@ -6,7 +6,7 @@ use Rattle.lists.specs.Count.{last}
 use Rattle.lists.proofs.CountLaws.{last-bottom}
 use Rattle.model.specs.Site.{A, full, blocking}
 use Rattle.model.proofs.SiteLaws.{accepted}
-use Rattle.book.proofs.DownLaws.{counted-from, level-inside, counted-on, more-fits, found-full, passed-on}
+use Rattle.book.proofs.ReadLaws.{counted-from, level-inside, counted-on, more-fits, found-full, passed-on}
 use borrow.Author.Needs.{needs}
 use Rattle.book.proofs.blocking.Statement.{statement}
 use Rattle.book.proofs.blocking.Tie as tie
@@ -22,7 +22,7 @@ abbrev start : tie.At-loop Inv-loop μ-loop → tie.Start Inv-loop μ-loop
 start c = c .before .before .before
 
 loop-holds : tie.Need-loop-holds Inv-loop μ-loop
-loop-holds c = (omega arith, counted-from (c .before .before .pre) (c .calls-from .ensures), refl)
+loop-holds c = (omega arith, counted-from (c .before .before .pre) _ (c .calls-from .ensures), refl)
 
 sub-if1 : tie.Need-sub-if1 Inv-loop μ-loop
 sub-if1 c = let at-loop = c .before in omega (arith, at-loop .loop .inv .0, start at-loop .pre .below)

@@ -1,11 +1,10 @@
--- `book::room` meets its contract: a refused walk or a level too high gets its refusal, and otherwise the calls from the level on are taken off.
--- Assumes nothing.
+-- `book::room` meets its contract: a refused walk or a level too high gets its refusal, and otherwise the smallest up to the level is told. Assumes nothing.
 use mathlib.Core.Path.{_≡_, sym, _∙_}
 use denote.Ref.{now}
-use borrow.Author.Needs.{needs}
 use Rattle.tree.specs.Descent.{descent}
 use Rattle.tree.specs.declared.Descent.{Descent}
-use Rattle.book.proofs.BookLaws.{room-refused, room-beyond, room-fits, room-below}
+use Rattle.book.proofs.BookLaws.{room-refused, room-beyond, room-below, asked}
+use borrow.Author.Needs.{needs}
 use Rattle.book.proofs.room.Statement.{statement}
 use Rattle.book.proofs.room.Tie as tie
 
@@ -22,19 +21,14 @@ returns c = room-refused _ _ (sym (c .enum-told2 .given .1) ∙ c .before .befor
 returns-2 : tie.Need-returns-2
 returns-2 c = let at-end = c .before .before in room-beyond _ _ _ (ended at-end) _ (c .if1 .taken)
 
-sub-t9 : tie.Need-sub-t9
-sub-t9 c =
-    let counted = c .before in
-    let below = counted .before .before in
-    let at-end = below .before .before in
-    room-fits _ _ _ (ended at-end) _ _ (below .if1 .left) (counted .calls-from .ensures)
+least-spare-requires : tie.Need-least-spare-requires
+least-spare-requires c κs = let at-end = c .before .before in asked _ _ _ (ended at-end) _ (c .if1 .left)
 
 returns-3 : tie.Need-returns-3
 returns-3 c =
-    let counted = c .before in
-    let below = counted .before .before in
+    let below = c .before in
     let at-end = below .before .before in
-    room-below _ _ _ (ended at-end) _ _ (below .if1 .left) (counted .calls-from .ensures)
+    room-below _ _ _ (ended at-end) _ (below .if1 .left) _ (c .least-spare .ensures)
 
 pub room-spec : {M : Type 1} → statement M
 room-spec =
@@ -45,10 +39,5 @@ room-spec =
     (λ c. search needs)
     returns
     returns-2
-    (λ c. search needs)
-    (λ c κs. search needs)
-    (λ c. search needs)
-    (λ c. search needs)
-    sub-t9
-    (λ c. search needs)
+    least-spare-requires
     returns-3)
