@@ -1,9 +1,9 @@
--- `lengths::try_lengths` ends: each turn is one length further. Assumes nothing.
+-- `pieces::try_lengths` ends: each turn is one length further. Assumes nothing.
 use Prim.Native.Nat.{_-_, _≤_}
 use native.Mathlib.Omega.{arith}
 use borrow.Author.Needs.{needs}
-use Rattle.lengths.proofs.try_lengths.Statement.{statement}
-use Rattle.lengths.proofs.try_lengths.Tie as tie
+use Rattle.pieces.proofs.try_lengths.Statement.{statement}
+use Rattle.pieces.proofs.try_lengths.Tie as tie
 
 abbrev Inv-loop : tie.InvT-loop
 Inv-loop net bytes from length₀ length = length ≤ 71

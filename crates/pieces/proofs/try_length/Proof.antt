@@ -1,10 +1,10 @@
--- `lengths::try_length` is safe: the text that is lent is as long as was asked for. Assumes nothing.
+-- `pieces::try_length` is safe: the text that is lent is as long as was asked for. Assumes nothing.
 use native.Mathlib.Omega.{arith}
 use mathlib.Core.Path.{sym}
 use lib.Seq.{length-take-le}
 use borrow.Author.Needs.{needs}
-use Rattle.lengths.proofs.try_length.Statement.{statement}
-use Rattle.lengths.proofs.try_length.Tie as tie
+use Rattle.pieces.proofs.try_length.Statement.{statement}
+use Rattle.pieces.proofs.try_length.Tie as tie
 
 slice-aggregate-run : tie.Need-slice-aggregate-run
 slice-aggregate-run c = sym (length-take-le (c .before .before .before .args .length) _ (c .before .if1 .left))

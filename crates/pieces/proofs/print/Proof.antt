@@ -1,10 +1,10 @@
--- `lengths::print` is safe: what is written lies within the text. Assumes nothing.
+-- `pieces::print` is safe: what is written lies within the text. Assumes nothing.
 use native.Mathlib.Omega.{arith}
 use mathlib.Core.Path.{sym}
 use lib.Seq.{length-take-le}
 use borrow.Author.Needs.{needs}
-use Rattle.lengths.proofs.print.Statement.{statement}
-use Rattle.lengths.proofs.print.Tie as tie
+use Rattle.pieces.proofs.print.Statement.{statement}
+use Rattle.pieces.proofs.print.Tie as tie
 
 within : tie.Need-slice-aggregate-say
 within c =

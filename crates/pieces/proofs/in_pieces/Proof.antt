@@ -1,9 +1,9 @@
--- `lengths::in_pieces` ends: there are 64 turns at the most. Assumes nothing.
+-- `pieces::in_pieces` ends: there are 64 turns at the most. Assumes nothing.
 use Prim.Native.Nat.{_-_, _≤_}
 use native.Mathlib.Omega.{arith}
 use borrow.Author.Needs.{needs}
-use Rattle.lengths.proofs.in_pieces.Statement.{statement}
-use Rattle.lengths.proofs.in_pieces.Tie as tie
+use Rattle.pieces.proofs.in_pieces.Statement.{statement}
+use Rattle.pieces.proofs.in_pieces.Tie as tie
 
 abbrev Inv-loop : tie.InvT-loop
 Inv-loop bytes from net₀ at₀ counter₀ net at counter = counter ≤ 64
