@@ -1,0 +1,4 @@
+mod SoundLaws
+mod RecordPuts
+mod FrontLaws
+pub mod AnswerLaws
