@@ -1,5 +1,5 @@
-//! Compares the depends, the rewrite and the lengths program with a plain reader and a plain writer of plan bytes. Arguments: the three programs, and the file of
-//! stored vectors.
+//! Compares the depends, the rewrite and the lengths program with a plain reader and a plain writer of plan bytes.
+//! Arguments: the three programs, and the file of stored vectors.
 
 mod cases;
 mod compare;

@@ -14,7 +14,7 @@ use Rattle.model.proofs.WritingLaws.{answer-refused, answer-length, file-in-fro
 use Rattle.writing.specs.Writes.{toldWrite, Writes}
 use Rattle.writing.specs.declared.WriteAnswer.{WriteAnswer}
 
-write-injective : (x y : WriteAnswer) → toldWrite x ≡ toldWrite y → x ≡ y
+pub write-injective : (x y : WriteAnswer) → toldWrite x ≡ toldWrite y → x ≡ y
 write-injective (WriteAnswer.Written n) (WriteAnswer.Written m) e = let q : n ≡ m = cc in ap WriteAnswer.Written q
 write-injective (WriteAnswer.Written n) WriteAnswer.BrokenPlan e = cc
 write-injective (WriteAnswer.Written n) WriteAnswer.ShortBuffer e = cc
@@ -31,21 +31,25 @@ writes-once {plan} {old} {new} {also} {r} {s} a b = (
   a .buffer-is ∙ sym (b .buffer-is),
 )
 
-pub written-inside : {plan : Plan} {old new : List ℕ} {r : WriteAnswer} (size : ℕ) → r ≡ WriteAnswer.Written size → Writes plan old r new
-    → size ≤ length new
-written-inside {plan} {old} {new} size is w = go (eqb (write-fault plan (length old)) 0) refl
-  where
-    told : 0 ∷ size ∷ [] ≡ write-answer plan (length old)
-    told = sym (ap toldWrite is) ∙ w .answer-is
+-- a length is answered only where there is no refusal, and is the file's
+module _ {plan : Plan} {old new : List ℕ} {r : WriteAnswer} (size : ℕ) (is : r ≡ WriteAnswer.Written size) (w : Writes plan old r new) where
+  told : 0 ∷ size ∷ [] ≡ write-answer plan (length old)
+  told = sym (ap toldWrite is) ∙ w .answer-is
 
-    go : (b : Bool) → eqb (write-fault plan (length old)) 0 ≡ b → size ≤ length new
-    go true e =
-        let none = eqb-true (write-fault plan (length old)) 0 e in
-        let same : 0 ∷ size ∷ [] ≡ 0 ∷ length (plan-file plan) ∷ [] = told ∙ answer-length plan (length old) none in
-        let its : size ≡ length (plan-file plan) = cc in
-        let long = ap length (w .buffer-is ∙ file-in-front plan old none) in
-        omega (arith, length-append (plan-file plan) (drop (length (plan-file plan)) old))
-    go false e =
-        let same = told ∙ answer-refused plan (length old) refl (eqb-false (write-fault plan (length old)) 0 e) in
-        let z : _≡_ {A = ℕ} 0 1 = cc in
-        absurd (omega arith)
+  pub written-none : write-fault plan (length old) ≡ 0
+  written-none = go (eqb (write-fault plan (length old)) 0) refl
+    where
+      go : (b : Bool) → eqb (write-fault plan (length old)) 0 ≡ b → write-fault plan (length old) ≡ 0
+      go true e = eqb-true (write-fault plan (length old)) 0 e
+      go false e =
+          let same = told ∙ answer-refused plan (length old) refl (eqb-false (write-fault plan (length old)) 0 e) in
+          let z : _≡_ {A = ℕ} 0 1 = cc in
+          absurd (omega arith)
+
+  pub written-size : size ≡ length (plan-file plan)
+  written-size = let same : 0 ∷ size ∷ [] ≡ 0 ∷ length (plan-file plan) ∷ [] = told ∙ answer-length plan (length old) written-none in cc
+
+  pub written-inside : size ≤ length new
+  written-inside =
+      let long = ap length (w .buffer-is ∙ file-in-front plan old written-none) in
+      omega (arith, written-size, length-append (plan-file plan) (drop (length (plan-file plan)) old))

@@ -2,3 +2,4 @@ mod SoundLaws
 mod RecordPuts
 mod FrontLaws
 pub mod AnswerLaws
+pub mod RoundLaws

@@ -1,5 +1,4 @@
 -- `rewrite::main` meets its contract: the line lies within its buffer, and the file within its own. Assumes nothing.
-use native.Mathlib.Omega.{arith}
 use mathlib.Core.Path.{sym}
 use lib.Seq.{length-take-le}
 use borrow.Author.Needs.{needs}

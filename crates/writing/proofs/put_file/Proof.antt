@@ -47,13 +47,16 @@ put-edges-requires c κs =
     let put = put-then first (at-nodes .put-nodes .ensures) in
     (start .pre .0, omega (arith, parts start, first .end-is, at-nodes .put-nodes .ensures .end-is, put-long put))
 
+abbrev begun : tie.After-put-edges → tie.Start
+begun c = entry (sites-put (nodes-put c))
+
 -- all records
-records : (c : tie.After-put-edges) → Put (entry (sites-put (nodes-put c)) .args .buffer .now) 0
-    (sites-bytes (entry (sites-put (nodes-put c)) .args .plan) sites ++ nodes-bytes (entry (sites-put (nodes-put c)) .args .plan) nodes
-    ++ edges-bytes (entry (sites-put (nodes-put c)) .args .plan) (entry (sites-put (nodes-put c)) .args .plan .edges))
+records : (c : tie.After-put-edges) → Put (begun c .args .buffer .now) 0
+    (sites-bytes (begun c .args .plan) sites ++ nodes-bytes (begun c .args .plan) nodes ++ edges-bytes (begun c .args .plan) (begun c .args .plan .edges))
     (c .put-edges .last .0) (c .put-edges .result)
 records c =
-    put-then (put-then (sites-put (nodes-put c) .put-sites .ensures) (nodes-put c .put-nodes .ensures)) (c .put-edges .ensures)
+    let at-nodes = nodes-put c in
+    put-then (put-then (sites-put at-nodes .put-sites .ensures) (at-nodes .put-nodes .ensures)) (c .put-edges .ensures)
 
 slice-write-buffer : tie.Need-slice-write-buffer
 slice-write-buffer c =
@@ -72,7 +75,7 @@ slice-write-buffer c =
 returns : tie.Need-returns
 returns c =
     let at-edges = c .before .before in
-    let start = entry (sites-put (nodes-put at-edges)) in
+    let start = begun at-edges in
     put-as (file-parts (start .args .plan) (start .pre .0)) (put-store _ 4 _ refl refl (slice-write-buffer c) (records at-edges))
 
 same-length : tie.Need-same-length

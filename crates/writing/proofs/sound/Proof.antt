@@ -31,7 +31,8 @@ returns-3 c =
     let ended = c .before .before in
     let passed = at-passed ended in
     let why = c .enum-told2 .given in
-    end-refuses (passed .before .before .args .plan) (good passed) (ended .check-end .ensures) (λ z. refusal-named (why .0 .0) .1 (sym (ap toldCheck (why .1)) ∙ z))
+    end-refuses (passed .before .before .args .plan) (good passed) (ended .check-end .ensures)
+    (λ z. refusal-named (why .0 .0) .1 (sym (ap toldCheck (why .1)) ∙ z))
 
 pub sound-spec : {M : Type 1} → statement M
 sound-spec =

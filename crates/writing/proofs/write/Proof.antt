@@ -18,14 +18,22 @@ returns : tie.Need-returns
 returns c =
     let asked = c .before in
     let start = asked .before .before in
-    broken-answers (start .args .plan) (start .args .buffer .now) (eqb-false (plan-fault (start .args .plan)) 0 (denied _ _ (asked .sound .ensures) (c .if1 .taken)))
+    let plan = start .args .plan in
+    broken-answers plan (start .args .buffer .now) (eqb-false (plan-fault plan) 0 (denied _ _ (asked .sound .ensures) (c .if1 .taken)))
+
+-- behind the first test, back to the entry, and behind the second
+abbrev start1 : tie.Else1 → tie.Start
+start1 c = c .before .before .before
+
+abbrev start2 : tie.Else2 → tie.Start
+start2 c = let sound = c .before .before in start1 sound
 
 -- behind the first test the plan has no fault
-no-fault : (c : tie.Else1) → plan-fault (c .before .before .before .args .plan) ≡ 0
-no-fault c = eqb-true (plan-fault (c .before .before .before .args .plan)) 0 (granted _ _ (c .before .sound .ensures) (c .if1 .left))
+no-fault : (c : tie.Else1) → plan-fault (start1 c .args .plan) ≡ 0
+no-fault c = eqb-true (plan-fault (start1 c .args .plan)) 0 (granted _ _ (c .before .sound .ensures) (c .if1 .left))
 
-few : (c : tie.Else1) → c .before .before .before .args .plan .edges ≤ most-edges
-few c = plan-fault-none (c .before .before .before .args .plan) .0 (no-fault c) .0
+few : (c : tie.Else1) → start1 c .args .plan .edges ≤ most-edges
+few c = plan-fault-none (start1 c .args .plan) .0 (no-fault c) .0
 
 file-length-requires : tie.Need-file-length-requires
 file-length-requires c κs = few c
@@ -34,11 +42,11 @@ returns-2 : tie.Need-returns-2
 returns-2 c =
     let sized = c .before in
     let sound = sized .before in
-    let start = sound .before .before .before in
-    short-answers (start .args .plan) (start .args .buffer .now) (no-fault sound) (omega (arith, sized .file-length .ensures))
+    let here = start1 sound .args in
+    short-answers (here .plan) (here .buffer .now) (no-fault sound) (omega (arith, sized .file-length .ensures))
 
--- behind the second it has room
-room : (c : tie.Else2) → length (plan-file (c .before .before .before .before .before .args .plan)) ≤ length (c .before .before .before .before .before .args .buffer .now)
+-- behind the second the buffer has room
+room : (c : tie.Else2) → length (plan-file (start2 c .args .plan)) ≤ length (start2 c .args .buffer .now)
 room c = omega (arith, c .before .file-length .ensures)
 
 put-file-requires : tie.Need-put-file-requires
@@ -48,9 +56,8 @@ returns-3 : tie.Need-returns-3
 returns-3 c =
     let put = c .before .before in
     let long = put .before .before in
-    let sound = long .before .before in
-    let start = sound .before .before .before in
-    file-answers (start .args .plan) (start .args .buffer .now) (no-fault sound) (room long) (put .put-file .ensures)
+    let here = start2 long .args in
+    file-answers (here .plan) (here .buffer .now) (no-fault (long .before .before)) (room long) (put .put-file .ensures)
 
 pub write-spec : {M : Type 1} → statement M
 write-spec =
