@@ -1,5 +1,5 @@
 // The text of a plan: the bench program's first line, and what depends on what. Each function writes into a lent buffer and answers the place behind what it
-// wrote. An inner crate: the programs alone call it, and leave room for what is written.
+// wrote. An inner crate: the programs call it, and leave room for what is written; `writing` has a plan's records counted here.
 use graph::Table;
 use ids::Node;
 use ids::Site;
