@@ -14,7 +14,7 @@ use Rattle.model.specs.Plan.{Record, encode}
 use Rattle.model.specs.Reading.{accepted, read, PlanOk}
 use Rattle.model.specs.PlanValue.{value, records-of}
 use Rattle.model.specs.PlanFault.{plan-fault}
-use Rattle.model.specs.Writing.{plan-file, write-fault, write-answer, written}
+use Rattle.model.specs.Writing.{plan-file, write-fault, write-answer, written, Rewriting}
 use Rattle.model.specs.declared.Plan.{Plan}
 use Rattle.model.proofs.EncodeLaws.{encode-injective}
 use Rattle.model.proofs.RecordLaws.{passes-ok}
@@ -174,3 +174,16 @@ one-plan a b rs qs used also ra rb = (
       let same = same-file (value rs) (value qs) .0 (read-file a rs used ra ∙ e ∙ sym (read-file b qs also rb)) in
       ap value (sym (holds a rs used ra) ∙ same ∙ holds b qs also rb)),
 )
+
+-- The sentences of request 2/14
+pub rewriting : Rewriting
+rewriting =
+    record {
+      past-the-length = untouched;
+      reads-back = written-reads;
+      writes-back = λ bytes rs used e buffer room. (read-written bytes rs used e buffer room, read-answered bytes rs used e buffer room);
+      plan-and-file = one-plan;
+      nothing-written = refused-nothing;
+      refused-18 = refused-18;
+      refused-10 = refused-10;
+    }

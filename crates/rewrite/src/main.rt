@@ -8,16 +8,13 @@ use writing::WriteAnswer;
 // The records of the largest plan, and behind them the longest record: so that whatever stands there is seen whole.
 const MOST_BYTES: usize = 3 * Site::COUNT + 4 * Node::COUNT + 3 * Node::EDGES + 4;
 
-// The longest first line.
-const LINE: usize = 89;
-
 fn main() {
     let mut input = [0u8; MOST_BYTES];
     let got = io::read_full(libc::STDIN_FILENO, &mut input);
     let read = plan::read(&input[..got]);
     let answer = read.answer;
     if let ReadAnswer::Refused(_, _) = answer {
-        let mut line = [0u8; LINE];
+        let mut line = [0u8; shown::LINE];
         let end = shown::first_line(&mut line, 0, read);
         io::write_all(libc::STDERR_FILENO, &line[..end]);
         return;
