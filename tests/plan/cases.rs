@@ -20,6 +20,7 @@ pub fn all(c: &mut Comparison) {
     damaged(c);
     largest(c);
     behind_the_largest(c);
+    each_length(c);
 }
 
 /// A fixed plan of the largest size: 16 sites, 64 nodes, 256 edges.
@@ -387,4 +388,22 @@ fn largest(c: &mut Comparison) {
         back.edges.insert((last.1, last.0));
         c.same(&back.bytes());
     }
+}
+
+/// Sound plans from the smallest to the largest, each into buffers from no byte to one more than it needs.
+fn each_length(c: &mut Comparison) {
+    c.group("each length of buffer");
+    let mut draw = Random::new(214);
+    for round in 0..200 {
+        let (sites, nodes) = (draw.within(1, 16), draw.within(2, 64));
+        let edges = draw.below((nodes * (nodes - 1) / 2).min(256) + 1);
+        let rest: Vec<u8> = (0..round % 4).map(|_| draw.byte()).collect();
+        c.each_length(&[draw.plan(sites, nodes, edges, 0).bytes(), rest].concat());
+    }
+    for seed in 1..=5 {
+        let largest = largest_plan(seed, 0).bytes();
+        assert_eq!(largest.len(), 1073);
+        c.each_length(&largest);
+    }
+    c.each_length(&END);
 }

@@ -1,16 +1,26 @@
-//! Groups of inputs. Each input goes to the plain reader and to the depends program, and the two texts are compared byte for byte.
+//! Groups of inputs. Each input goes to the plain reader and writer, to the depends program and to the rewrite program, and what they write is compared byte
+//! for byte; some go to the lengths program too.
 
-use crate::text::expected;
+use crate::text::{each_length, expected};
 use std::io::Write;
 use std::process::{Command, Stdio};
 
-/// The depends program takes no more bytes than this, and leaves the rest unread.
+/// The depends and the rewrite program take no more bytes than this, and leaves the rest unread.
 pub const LONGEST: usize = 1076;
 /// So many mismatches of a group are shown in full.
 const SHOWN: usize = 3;
 
+/// Where the programs are.
+pub struct Programs {
+    pub depends: String,
+    pub rewrite: String,
+    pub lengths: String,
+}
+
 pub struct Comparison {
-    program: String,
+    programs: Programs,
+    /// What the lengths program shows on any input, behind what it shows of the plan.
+    values: Vec<u8>,
     groups: Vec<Group>,
     /// How often each refusal was seen; place 0 counts the accepted plans.
     seen: [usize; 10],
@@ -23,8 +33,9 @@ struct Group {
 }
 
 impl Comparison {
-    pub fn new(program: String) -> Comparison {
-        Comparison { program, groups: Vec::new(), seen: [0; 10] }
+    pub fn new(programs: Programs) -> Comparison {
+        let values = run(&programs.lengths, &[]).out;
+        Comparison { programs, values, groups: Vec::new(), seen: [0; 10] }
     }
 
     /// Begins a group; the inputs that follow belong to it.
@@ -33,12 +44,22 @@ impl Comparison {
         self.groups.push(Group { name, inputs: 0, wrong: 0 });
     }
 
-    /// The two readers must agree.
+    /// The two readers must agree, and the two writers.
     pub fn same(&mut self, bytes: &[u8]) {
         let want = expected(bytes);
         self.seen[want.number as usize] += 1;
-        let got = run(&self.program, bytes);
-        self.count(bytes, &want.text, &got);
+        let shown = run(&self.programs.depends, bytes);
+        let rewritten = run(&self.programs.rewrite, bytes);
+        let want = format!("{}rewritten: {} {}", want.text, hex(&want.file), want.complaint);
+        let got = format!("{}rewritten: {} {}", shown.text(), hex(&rewritten.out), rewritten.complaint);
+        self.count(bytes, &want, &got);
+    }
+
+    /// A plan that is accepted is written into buffers of each length as the plain writer writes it.
+    pub fn each_length(&mut self, bytes: &[u8]) {
+        let want = [each_length(bytes), self.values.clone()].concat();
+        let got = run(&self.programs.lengths, bytes).out;
+        self.count(bytes, &hex(&want), &hex(&got));
     }
 
     /// The two readers must agree, and the first line is this one.
@@ -97,14 +118,28 @@ fn hex(bytes: &[u8]) -> String {
     bytes.iter().map(|byte| format!("{byte:02x}")).collect()
 }
 
-/// What the program prints for an input; a note in its place where it did not end well.
-fn run(program: &str, bytes: &[u8]) -> String {
+/// What a program writes to standard output and to standard error.
+struct Written {
+    out: Vec<u8>,
+    complaint: String,
+}
+
+impl Written {
+    fn text(&self) -> String {
+        String::from_utf8_lossy(&self.out).into_owned() + &self.complaint
+    }
+}
+
+/// What the program writes for an input; a note beside it where it did not end well.
+fn run(program: &str, bytes: &[u8]) -> Written {
     assert!(bytes.len() <= LONGEST, "an input of {} bytes", bytes.len());
-    let mut child = Command::new(program).stdin(Stdio::piped()).stdout(Stdio::piped()).spawn().expect("the program starts");
+    let mut command = Command::new(program);
+    let mut child = command.stdin(Stdio::piped()).stdout(Stdio::piped()).stderr(Stdio::piped()).spawn().expect("the program starts");
     let sent = child.stdin.take().expect("a pipe").write_all(bytes);
     let output = child.wait_with_output().expect("the program ends");
+    let mut complaint = String::from_utf8_lossy(&output.stderr).into_owned();
     if sent.is_err() || !output.status.success() {
-        return format!("{} ({sent:?})", output.status);
+        complaint += &format!("{} ({sent:?})", output.status);
     }
-    String::from_utf8_lossy(&output.stdout).into_owned()
+    Written { out: output.stdout, complaint }
 }

@@ -1,4 +1,5 @@
-//! Compares the depends program with a plain reader of plan bytes. Arguments: the program, and the file of stored vectors.
+//! Compares the depends, the rewrite and the lengths program with a plain reader and a plain writer of plan bytes.
+//! Arguments: the three programs, and the file of stored vectors.
 
 mod cases;
 mod compare;
@@ -6,17 +7,19 @@ mod plans;
 mod reader;
 mod text;
 mod vectors;
+mod writer;
 
-use compare::Comparison;
+use compare::{Comparison, Programs};
 use std::process::ExitCode;
 
 fn main() -> ExitCode {
     let words: Vec<String> = std::env::args().collect();
-    let [_, program, stored] = &words[..] else {
-        eprintln!("wanted: the depends program, the file of vectors");
+    let [_, depends, rewrite, lengths, stored] = &words[..] else {
+        eprintln!("wanted: the depends, the rewrite and the lengths program, the file of vectors");
         return ExitCode::from(2);
     };
-    let mut comparison = Comparison::new(program.clone());
+    let programs = Programs { depends: depends.clone(), rewrite: rewrite.clone(), lengths: lengths.clone() };
+    let mut comparison = Comparison::new(programs);
     vectors::all(&mut comparison, &std::fs::read_to_string(stored).expect("the file of vectors"));
     cases::all(&mut comparison);
     if comparison.close() {

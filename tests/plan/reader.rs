@@ -45,11 +45,11 @@ impl Plan {
         &self.edges[..self.edge_count]
     }
 
-    fn has_site(&self, site: u8) -> bool {
+    pub fn has_site(&self, site: u8) -> bool {
         (site as usize) < SITES && self.threads[site as usize] > 0
     }
 
-    fn has_node(&self, node: u8) -> bool {
+    pub fn has_node(&self, node: u8) -> bool {
         (node as usize) < NODES && self.nodes[node as usize].is_some()
     }
 
@@ -149,7 +149,7 @@ fn read_into(plan: &mut Plan, bytes: &[u8]) -> Result<usize, Refusal> {
 }
 
 /// The checks on the whole plan: 7, then 8.
-fn whole(plan: &Plan) -> Result<(), u8> {
+pub fn whole(plan: &Plan) -> Result<(), u8> {
     let mut calls = call_steps(plan);
     close(&mut calls);
     if (0..NODES).any(|n| calls[n][n]) {

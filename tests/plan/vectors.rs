@@ -4,12 +4,21 @@ use crate::compare::Comparison;
 use crate::plans::{edge, first_pairs, node};
 
 pub fn all(c: &mut Comparison, file: &str) {
+    let vectors: Vec<(Vec<u8>, &str)> = file.lines().filter(|line| !line.is_empty() && !line.starts_with('#')).map(vector).collect();
     c.group("stored vectors");
-    for line in file.lines().filter(|line| !line.is_empty() && !line.starts_with('#')) {
-        let (input, answer) = line.split_once("->").unwrap_or_else(|| panic!("no arrow: {line}"));
-        let bytes: Vec<u8> = input.split_whitespace().flat_map(word).collect();
-        c.first_line(&bytes, answer.trim());
+    for (bytes, answer) in &vectors {
+        c.first_line(bytes, answer);
     }
+    c.group("stored vectors, each length of buffer");
+    for (bytes, _) in vectors.iter().filter(|(_, answer)| !answer.starts_with("plan R")) {
+        c.each_length(bytes);
+    }
+}
+
+/// The bytes and the answer of a line.
+fn vector(line: &str) -> (Vec<u8>, &str) {
+    let (input, answer) = line.split_once("->").unwrap_or_else(|| panic!("no arrow: {line}"));
+    (input.split_whitespace().flat_map(word).collect(), answer.trim())
 }
 
 /// The bytes of a word: hex digits, or many records at once.

@@ -19,6 +19,8 @@ pub mod HeldLaws
 pub mod PlanValueLaws
 pub mod RefusalLaws
 pub mod PlanFaultLaws
+pub mod WritingLaws
+pub mod FileLaws
 pub mod LevelSheet
 pub mod PlaceLaws
 pub mod CountsLaws

@@ -11,6 +11,7 @@ pub mod Faults
 pub mod Records
 pub mod PlanValue
 pub mod PlanFault
+pub mod Writing
 pub mod LevelSheet
 pub mod Net
 pub mod Command

@@ -1,5 +1,5 @@
 // The text of a plan: the bench program's first line, and what depends on what. Each function writes into a lent buffer and answers the place behind what it
-// wrote. An inner crate: the programs alone call it, and leave room for what is written.
+// wrote. An inner crate: the programs call it, and leave room for what is written; `writing` has a plan's records counted here.
 use graph::Table;
 use ids::Node;
 use ids::Site;
@@ -17,9 +17,12 @@ ghost use Rattle.shown.specs.Heading.{site-count, node-count, first-text
 ghost use Rattle.shown.specs.Lines.{item as item-text, items, node-text, node-texts, shown-text, is-listed, told-on};
 ghost use Rattle.shown.specs.Room.{line-most, shown-room, ItemRoom, RowRoom, LineRoom};
 
+// The room that `first_line` asks for, `plan-room`: the longest first line.
+pub const LINE: usize = 89;
+
 // The room that `show` asks for, `shown-room`: the longest first line, for each node its number, a colon, 64 numbers with a space each and the line's end, and
 // behind them room for a number of any size, which `text::number` asks for whatever it writes.
-pub const ROOM: usize = 89 + Node::COUNT * (3 * Node::COUNT + 4) + 6;
+pub const ROOM: usize = LINE + Node::COUNT * (3 * Node::COUNT + 4) + 6;
 
 // How many sites a plan has: those with threads.
 pub fn site_count(plan: Plan) -> usize

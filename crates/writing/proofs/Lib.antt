@@ -1,0 +1,5 @@
+mod SoundLaws
+mod RecordPuts
+mod FrontLaws
+pub mod AnswerLaws
+pub mod RoundLaws
