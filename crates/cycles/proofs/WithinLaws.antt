@@ -38,12 +38,13 @@ circle-same : {c s d t : ℕ → ℕ → Bool} → ((n m : ℕ) → Depends c s 
     → ((n : ℕ) × Depends c s n n) ↔ ((n : ℕ) × Depends d t n n)
 circle-same h = ((λ w. (w .0, h (w .0) (w .0) .0 (w .1))), (λ w. (w .0, h (w .0) (w .0) .1 (w .1))))
 
--- rows of a relation have its pairs of nodes
+-- rows of a relation: a word of 64 bits for each node
 pub record RowsWhole (rows : List ℕ) (relation : ℕ → ℕ → Bool) : Type 0 where
   pub is : RowsTell rows relation
   pub whole : length rows ≡ nodes
   pub small : (n : ℕ) → getD rows n 0 < 2 ^ nodes
 
+-- they have its pairs of nodes
 pub rows-within : {rows : List ℕ} {relation : ℕ → ℕ → Bool} → RowsWhole rows relation → (n m : ℕ) → T (linked rows n m) ↔ T (within-nodes relation n m)
 unfolding within-nodes linked
 rows-within {rows} {relation} told n m = (from, into)

@@ -1,4 +1,4 @@
-// Reading and checking a plan as one C function, and nothing beside it: what a console without the rest links, and what stack and instructions are measured on.
+// Reading and checking a plan as one C function, and nothing beside it, so that the stack and the instructions of the plan check can be measured.
 ghost use mathlib.Core.Path.{_≡_};
 ghost use lib.ListN.{getD};
 ghost use Rattle.model.specs.Reading.{read as reading};

@@ -12,11 +12,11 @@ use lib.Bits.{bitOr, or-add-and, or-disjoint, or-lt}
 use lib.Dec.{T}
 use lib.ListN.{length, getD, List·getD-eq-default}
 use Rattle.ids.specs.Limits.{nodes}
-use Rattle.lists.proofs.CountLaws.{lt-or-ge}
+use Rattle.lists.proofs.CountLaws.{lt-or-ge, same-test}
 use Rattle.model.specs.Graph.{Reach, stay, go}
-use Rattle.model.proofs.GraphLaws.{yes, reach-join}
+use Rattle.model.proofs.GraphLaws.{yes, is-true, reach-join}
 use Rattle.words.specs.Words.{member, least, without-least, difference}
-use Rattle.words.proofs.WordLaws.{member-zero, member-difference, apart-zero}
+use Rattle.words.proofs.WordLaws.{member-zero, member-difference, members-one, apart-zero}
 use Rattle.words.proofs.LeastLaws.{least-inside, without-less}
 use Rattle.links.specs.Rows.{linked}
 use Rattle.graph.specs.Reached.{ReachedFrom, ClosedBack}
@@ -147,6 +147,15 @@ reaching-all rows from found todo none so = record { sound = so .sound; complete
     follow : (n m : ℕ) → T (member found n) → Reach (linked rows) n m → T (member found m)
     follow n m h stay = h
     follow n m h (go {m = k} e p) = follow k m (⊎-elim (λ there. there) (λ left. absurd (empty n left)) (so .closed n k h e)) p
+
+-- what is reached is determined
+pub reached-one : (rows : List ℕ) (from a b : ℕ) → a < 2 ^ nodes → b < 2 ^ nodes → ReachedFrom rows from a → ReachedFrom rows from b → a ≡ b
+reached-one rows from a b ha hb one two =
+    members-one nodes a b ha hb
+    (λ n h. same-test (member a n) (member b n) (λ e. is-true (member b n) (over one two n (yes e))) (λ e. is-true (member a n) (over two one n (yes e))))
+  where
+    over : {x y : ℕ} → ReachedFrom rows from x → ReachedFrom rows from y → (n : ℕ) → T (member x n) → T (member y n)
+    over have want n h = let path = have .sound n h in want .complete (path .0) n (path .1) (path .2)
 
 -- Edges that are closed backwards
 

@@ -41,14 +41,19 @@ pub trailing-least : (word : ℕ) → trailingZeros nodes word ≡ least word
 unfolding least
 trailing-least word = trailing-first nodes word
 
--- the least node of a set that is not empty is in it
+-- no node below it is in the set
+pub least-before : (word n : ℕ) → n < least word → member word n ≡ false
+unfolding least
+least-before word n h = first-before nodes (member word) n h
+
+-- and where the set is not empty it is in it
 pub least-inside : (word : ℕ) → word < 2 ^ nodes → 0 < word → (least word < nodes) × (member word (least word) ≡ true)
 unfolding least
 least-inside word small some =
     ⊎-elim
     (λ (p : first nodes (member word) < nodes). (p, first-holds nodes (member word) p))
     (λ (p : nodes ≤ first nodes (member word)).
-    let none = members-one nodes word 0 small (omega arith) (λ n h. first-before nodes (member word) n (omega arith) ∙ sym (member-zero n)) in
+    let none = members-one nodes word 0 small (omega arith) (λ n h. least-before word n (omega arith) ∙ sym (member-zero n)) in
     absurd (omega arith))
     (lt-or-ge (first nodes (member word)) nodes)
 

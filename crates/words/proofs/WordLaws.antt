@@ -113,8 +113,9 @@ pub members-one : (k a b : ℕ) → a < 2 ^ k → b < 2 ^ k → ((n : ℕ) → n
 members-one zero a b ha hb same = omega arith
 members-one (suc k) a b ha hb same =
     let twice = pow-suc 2 k in
-    let rest : a / 2 ≡ b / 2 =
-    members-one k (a / 2) (b / 2) (omega (arith, twice)) (omega (arith, twice)) (λ n h. sym (higher-digits a n) ∙ same (suc n) (omega arith) ∙ higher-digits b n) in
+    let above : (n : ℕ) → n < k → member (a / 2) n ≡ member (b / 2) n =
+    λ n h. sym (higher-digits a n) ∙ same (suc n) (omega arith) ∙ higher-digits b n in
+    let rest : a / 2 ≡ b / 2 = members-one k (a / 2) (b / 2) (omega (arith, twice)) (omega (arith, twice)) above in
     let digit = sym (lowest-digit a) ∙ same 0 (omega arith) ∙ lowest-digit b in
     let equal : a % 2 ≡ b % 2 = one-digit (a % 2) (b % 2) (mod-lt a (zero-lt-suc 1)) (mod-lt b (zero-lt-suc 1)) digit in
     omega (arith, rest, equal)
