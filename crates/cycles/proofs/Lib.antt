@@ -1,2 +1,2 @@
-pub mod TableLaws
+pub mod StepLaws
 pub mod WithinLaws

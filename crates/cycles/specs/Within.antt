@@ -1,13 +1,13 @@
--- The part of a relation that a table can hold, and a row of a table. Assumes nothing.
-use Prim.Native.Nat.{ℕ, _*_, _<_}
+-- The part of a relation that rows of words can hold, and the steps within a site over the plan's arrays. Assumes nothing.
+use Prim.Native.Nat.{ℕ, _<_}
 use mathlib.Core.Path.{_≡_}
-use mathlib.Core.Bool.{Bool, false, _&&_, cond}
+use mathlib.Core.Bool.{Bool, false, _&&_, _||_, cond}
 use mathlib.Core.List.{List}
 use lib.Dec.{ltb, leb, eqb}
 use lib.ListN.{length, getD}
 use Rattle.ids.specs.Limits.{nodes}
 use Rattle.model.specs.PlanValue.{somewhere}
-use Rattle.graph.specs.Tables.{on}
+use Rattle.words.specs.Words.{member}
 
 -- the pairs of nodes: "Nodes are numbered 0 to 63". A plan that passes its checks has no others
 unfoldable pub within-nodes : (ℕ → ℕ → Bool) → ℕ → ℕ → Bool
@@ -20,13 +20,11 @@ steps-in places levels n m =
     (cond (eqb (getD places m 0) (getD places n 0)) (leb (getD levels m 0) (getD levels n 0)) false)
     false
 
--- the first `count` places of the row of n are those of `row`, and the other rows are as they were
-pub record Rowed (old new : List ℕ) (n : ℕ) (row : ℕ → Bool) (count : ℕ) : Type 0 where
-  pub done : (m : ℕ) → m < count → on new n m ≡ row m
-  pub other : (i m : ℕ) → (i ≡ n → ⊥) → m < nodes → on new i m ≡ on old i m
-  pub long : length new ≡ length old
+-- a set with the nodes more that pass a test
+abbrev pub WithSteps : ℕ → ℕ → (ℕ → Bool) → Type 0
+WithSteps old new row = (m : ℕ) → m < nodes → member new m ≡ (member old m || row m)
 
--- Arrays that are lent: the places and the levels of all nodes
+-- Arrays that are lent: the places and the levels of all nodes, and the rows
 
 pub record StepAsked (places levels : List ℕ) (n m : ℕ) : Type 0 where
   pub placed : length places ≡ nodes
@@ -34,8 +32,12 @@ pub record StepAsked (places levels : List ℕ) (n m : ℕ) : Type 0 where
   pub from-node : n < nodes
   pub to-node : m < nodes
 
-pub record RowAsked (cells places levels : List ℕ) (n : ℕ) : Type 0 where
-  pub table : length cells ≡ nodes * nodes
+pub record RowAsked (places levels : List ℕ) (n : ℕ) : Type 0 where
   pub placed : length places ≡ nodes
   pub levelled : length levels ≡ nodes
   pub row-node : n < nodes
+
+pub record StepsAsked (rows places levels : List ℕ) : Type 0 where
+  pub whole : length rows ≡ nodes
+  pub placed : length places ≡ nodes
+  pub levelled : length levels ≡ nodes

@@ -1,3 +1,2 @@
-pub mod StepLaws
-pub mod TellLaws
-pub mod PathLaws
+pub mod SetLaws
+pub mod ReachLaws

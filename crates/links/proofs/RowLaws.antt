@@ -9,7 +9,7 @@ use mathlib.Core.List.{List, []}
 use lib.Dec.{eqb}
 use lib.ListN.{length, getD, set, replicate, getD-replicate}
 use lib.Seq.{getD-set-same, getD-set-other}
-use borrow.Author.Tests.{eqb-true, eqb-false, eq-eqb, ne-eqb}
+use borrow.Author.Tests.{eqb-true, eqb-false, ne-eqb}
 use Rattle.ids.specs.Limits.{nodes, most-edges}
 use Rattle.lists.proofs.CountLaws.{lt-or-ge, true-or-false}
 use Rattle.model.specs.Plan.{has-edge}

@@ -109,9 +109,8 @@ pub fn read(bytes: &[u8]) -> PlanRead
     let ReadAnswer::Accepted(used) = answer else {
         return scanned;
     };
-    let plan = scanned.plan;
     let none = record::empty();
-    let checked = record::check_end(plan);
+    let checked = record::check_end(scanned.plan);
     if let Checked::Refused(why) = checked {
         return refused(why, used - 1, none);
     }

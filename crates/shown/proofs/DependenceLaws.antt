@@ -17,9 +17,9 @@ use Rattle.model.specs.Records.{RecordsOk}
 use Rattle.model.proofs.GraphLaws.{yes, is-true, or-cases, or-by-left, or-by-right, via-sound, via-complete, depends-edge, edge-depends}
 use Rattle.model.proofs.KindLaws.{in-edges, edges-in}
 use Rattle.model.proofs.PlanLaws.{calls-listed, listed-calls, call-nodes, step-node}
-use Rattle.graph.specs.Tables.{TableTells}
+use Rattle.printable.specs.Tables.{TableTells}
 use Rattle.cycles.specs.Within.{within-nodes}
-use Rattle.cycles.proofs.WithinLaws.{dependence-told}
+use Rattle.cycles.proofs.WithinLaws.{depends-whole}
 use Rattle.shown.specs.Dependence.{on-way, some-on-way, node-depends}
 use Rattle.shown.specs.Lines.{told-on}
 
@@ -79,5 +79,5 @@ module _ (rs : List Record) (ok : RecordsOk rs) where
   told-on-depends cells tells n m hn hm =
       let byte = getD cells (nodes * n + m) 0 in
       same-verdict (told-on cells n m) (node-depends rs n m)
-      (Iff·trans (eqb-true byte 1, eq-eqb byte 1) (dependence-told rs ok cells tells .told n m hn hm))
+      (Iff·trans (eqb-true byte 1, eq-eqb byte 1) (Iff·trans (tells .told n m hn hm) (depends-whole rs ok (site-steps rs) n m)))
       (node-depends-is n m)

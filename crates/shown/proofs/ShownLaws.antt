@@ -18,7 +18,7 @@ use Rattle.model.specs.declared.PlanRefusal.{PlanRefusal}
 use Rattle.model.specs.declared.ReadAnswer.{ReadAnswer}
 use Rattle.model.proofs.PlanValueLaws.{value-sized, records-value, present-value}
 use Rattle.model.proofs.RefusalLaws.{refusal-named}
-use Rattle.graph.specs.Tables.{TableTells}
+use Rattle.printable.specs.Tables.{TableTells}
 use Rattle.cycles.specs.Within.{within-nodes}
 use Rattle.plan.specs.Answers.{ReadTold}
 use Rattle.plan.proofs.AnswerLaws.{Reached}

@@ -1,11 +1,11 @@
 // The text of a plan: the bench program's first line, and what depends on what. Each function writes into a lent buffer and answers the place behind what it
 // wrote. An inner crate: the programs call it, and leave room for what is written; `writing` has a plan's records counted here.
-use graph::Table;
 use ids::Node;
 use ids::Site;
 use model::Plan;
 use model::PlanRead;
 use model::ReadAnswer;
+use printable::Table;
 ghost use Prim.Native.Nat.{_+_, _*_, _≤_};
 ghost use mathlib.Core.Path.{_≡_};
 ghost use lib.ListN.{length};
@@ -145,6 +145,6 @@ pub fn show(text: &mut [u8], bytes: &[u8]) -> usize
         return at;
     };
     let plan = scanned.plan;
-    let table = cycles::dependence(plan);
+    let table = printable::dependence(plan);
     node_lines(text, at, plan, table)
 }

@@ -1,5 +1,5 @@
 -- `links::call_rows` meets its contract. The loop's invariant: the rows have the call edges of the first i edge records. Assumes nothing.
-use Prim.Native.Nat.{_-_, _≤_, min}
+use Prim.Native.Nat.{_-_, min}
 use native.Mathlib.Omega.{arith}
 use mathlib.Core.Path.{_≡_, refl}
 use Rattle.ids.specs.Limits.{most-edges}

@@ -23,7 +23,7 @@ returns c =
 
 -- the end record was reached, and its checks were asked
 abbrev at-answer : tie.After-check-end → tie.After-answer
-at-answer c = c .before .before .before .before
+at-answer c = c .before .before .before
 
 there : (c : tie.After-check-end)
     → let answer = at-answer c in

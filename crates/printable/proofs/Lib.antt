@@ -1,0 +1,3 @@
+pub mod TellLaws
+pub mod CalledLaws
+pub mod DependsLaws
