@@ -4,7 +4,6 @@ use mathlib.Core.Path.{_≡_, sym, ap, subst}
 use mathlib.Core.List.{List, [], _∷_, _++_}
 use lib.ListN.{length, getD, set}
 use Rattle.ids.specs.Limits.{most-open}
-use Rattle.lists.specs.Tabled.{tabled}
 use Rattle.lists.proofs.TabledLaws.{length-tabled, tabled-more}
 use Rattle.model.specs.Net.{Call}
 use Rattle.moves.specs.Held.{Tells, ticket-number, parent-number, node-number}

@@ -6,9 +6,7 @@ use borrow.Author.Tests.{lt-ltb, le-ltb, le-leb, lt-leb}
 use mathlib.Core.Path.{_≡_, refl, sym, ap, ap₂, _∙_}
 use mathlib.Core.Bool.{Bool, true, false, cond}
 use mathlib.Core.List.{List, [], _∷_}
-use lib.Dec.{ltb, eqb}
-use lib.ListN.{length}
-use Rattle.ids.specs.Limits.{most-threads}
+use lib.Dec.{ltb}
 use Rattle.lists.specs.Count.{smallest}
 use Rattle.model.specs.Site.{refuses-site, limit, may-admit, blocking, spare}
 use Rattle.model.specs.Tree.{from-root}

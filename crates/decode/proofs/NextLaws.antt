@@ -6,7 +6,7 @@ use mathlib.Core.List.{List}
 use lib.ListN.{length, getD, take, drop}
 use Rattle.model.specs.Transcript.{command-kinds}
 use Rattle.model.proofs.HouseLaws.{next-lacking, next-unknown, next-cut, next-whole, behind-whole}
-use Rattle.decode.specs.Asked.{size-told, next-in, from-next, request-of}
+use Rattle.decode.specs.Asked.{size-told, request-at, request-from, request-of}
 use Rattle.decode.specs.declared.Request.{Request}
 use Rattle.decode.specs.declared.NextRequest.{NextRequest}
 
@@ -19,21 +19,21 @@ told-some zero some-size = absurd (some-size refl)
 told-some (suc n) some-size = refl
 
 module _ (bytes : List ℕ) (at : ℕ) where
-  pub lacks-kind : length bytes ≤ at → NextRequest.End ≡ next-in bytes at
-  lacks-kind h = sym (ap (λ n. from-next n at) (next-lacking command-kinds bytes at h))
+  pub lacks-kind : length bytes ≤ at → NextRequest.End ≡ request-at bytes at
+  lacks-kind h = sym (ap (λ n. request-from n at) (next-lacking command-kinds bytes at h))
 
   module _ (inside : at < length bytes) where
-    pub strange : command-kinds (getD bytes at 0) ≡ none → NextRequest.Unknown ≡ next-in bytes at
-    strange e = sym (ap (λ n. from-next n at) (next-unknown command-kinds bytes at inside e))
+    pub strange : command-kinds (getD bytes at 0) ≡ none → NextRequest.Unknown ≡ request-at bytes at
+    strange e = sym (ap (λ n. request-from n at) (next-unknown command-kinds bytes at inside e))
 
     -- a kind that is known, with the length of its body
     module _ (size : ℕ) (long : command-kinds (getD bytes at 0) ≡ some size) where
-      pub short : length bytes - at - 1 < size → NextRequest.Cut ≡ next-in bytes at
-      short h = sym (ap (λ n. from-next n at) (next-cut command-kinds bytes at inside size long h))
+      pub short : length bytes - at - 1 < size → NextRequest.Cut ≡ request-at bytes at
+      short h = sym (ap (λ n. request-from n at) (next-cut command-kinds bytes at inside size long h))
 
       pub complete : size ≤ length bytes - at - 1 → (found : Request)
           → found ≡ request-of (getD bytes at 0) (take (at + 1 + size - (at + 1)) (drop (at + 1) bytes))
-          → NextRequest.Whole found (at + 1 + size) ≡ next-in bytes at
+          → NextRequest.Whole found (at + 1 + size) ≡ request-at bytes at
       complete h found is =
           ap₂ NextRequest.Whole is (behind-whole command-kinds bytes at inside size long h)
-          ∙ sym (ap (λ n. from-next n at) (next-whole command-kinds bytes at inside size long h))
+          ∙ sym (ap (λ n. request-from n at) (next-whole command-kinds bytes at inside size long h))

@@ -26,15 +26,15 @@ request-of kind body =
     (cond (eqb kind 0x13) (Request.Ask (word body 0))
     (cond (eqb kind 0x15) (Request.TakeBack (word body 0)) (Request.Room (getD body 0 0) (getD body 1 0))))))
 
-abbrev pub from-next : Next → ℕ → NextRequest
-from-next lacking at = NextRequest.End
-from-next unknown at = NextRequest.Unknown
-from-next cut at = NextRequest.Cut
-from-next (whole kind body rest) at = NextRequest.Whole (request-of kind body) (at + suc (length body))
+abbrev pub request-from : Next → ℕ → NextRequest
+request-from lacking at = NextRequest.End
+request-from unknown at = NextRequest.Unknown
+request-from cut at = NextRequest.Cut
+request-from (whole kind body rest) at = NextRequest.Whole (request-of kind body) (at + suc (length body))
 
 -- what stands at an offset
-abbrev pub next-in : List ℕ → ℕ → NextRequest
-next-in bytes at = from-next (next command-kinds (drop at bytes)) at
+abbrev pub request-at : List ℕ → ℕ → NextRequest
+request-at bytes at = request-from (next command-kinds (drop at bytes)) at
 
 -- the model's request
 abbrev pub asked : Request → transcript.Request

@@ -2,7 +2,7 @@
 ghost use Prim.Native.Nat.{_+_, _*_};
 ghost use mathlib.Core.Path.{_≡_};
 ghost use Rattle.model.specs.Transcript.{command-kinds};
-ghost use Rattle.decode.specs.Asked.{size-told, request-of, next-in};
+ghost use Rattle.decode.specs.Asked.{size-told, request-of, request-at};
 
 // What a record asks for. Tickets have two bytes, the rest one; the node stands first, so that in every case the tickets lie at the same places and the
 // back end keeps them apart.
@@ -75,7 +75,7 @@ fn request_in(kind: u8, body: &[u8]) -> Request
 
 // The request at an offset.
 pub fn next_request(bytes: &[u8], at: usize) -> NextRequest
-    ensures { λ r. ⌜ r ≡ next-in (now (bytes .entry)) at ⌝ }
+    ensures { λ r. ⌜ r ≡ request-at (now (bytes .entry)) at ⌝ }
 {
     if bytes.len() <= at {
         return NextRequest::End;

@@ -1,6 +1,6 @@
 -- Arrays that are made anew hold nothing, and the words of the call edges are those of the plan: a net can be prepared in them. Assumes nothing.
-use Prim.Native.Nat.{ℕ, zero, suc, _*_, _<_}
-use mathlib.Core.Path.{_≡_, refl, sym, _∙_}
+use Prim.Native.Nat.{ℕ, zero, suc, _*_}
+use mathlib.Core.Path.{_≡_, refl}
 use mathlib.Core.List.{List}
 use lib.ListN.{length, getD, replicate, length-replicate, getD-replicate}
 use Rattle.ids.specs.Limits.{sites, most-threads, most-open, nodes}

@@ -1,34 +1,33 @@
 -- What the arrays hold as the rules are tested: the calls' numbers, their keys, the plan's own arrays, and at the end the whole net. Assumes nothing.
-use Prim.Native.Nat.{ℕ, _≤_, _<_}
+use Prim.Native.Nat.{ℕ, _≤_}
 use native.Mathlib.Omega.{arith}
-use mathlib.Core.Path.{_≡_, refl, sym, ap, subst, _∙_}
-use mathlib.Core.Bool.{Bool, true, not}
+use mathlib.Core.Path.{_≡_, refl, sym, subst}
+use mathlib.Core.Bool.{true, not}
 use mathlib.Core.List.{List, [], List·Memᴰ}
-use lib.ListN.{length, getD}
-use Rattle.ids.specs.Limits.{sites, most-open}
-use Rattle.lists.specs.Pick.{all, tell}
+use Rattle.ids.specs.Limits.{most-open}
+use Rattle.lists.specs.Pick.{tell}
 use Rattle.lists.specs.Tabled.{tabled}
 use Rattle.lists.proofs.CountLaws.{denied}
 use Rattle.lists.proofs.PickLaws.{all-at}
-use Rattle.model.specs.Plan.{Record, threads}
+use Rattle.model.specs.Plan.{threads}
 use Rattle.model.specs.PlanValue.{records-of}
 use Rattle.model.specs.Net.{Call, has-node}
-use Rattle.model.specs.NetRules.{parent-kept, could-go, all-lawful, Keeps}
+use Rattle.model.specs.NetRules.{parent-kept, could-go, all-lawful}
 use Rattle.model.specs.Steady.{Firm}
 use Rattle.model.specs.declared.Plan.{Plan}
 use Rattle.model.proofs.HeldLaws.{Sized, threads-of}
 use Rattle.model.proofs.NetRuleLaws.{differ-is, not-0-is, sites-all}
-use Rattle.moves.specs.Held.{Tells, Arrays, arrays, RoomsTell}
+use Rattle.moves.specs.Held.{Tells, arrays, RoomsTell}
 use Rattle.model.specs.Net.{counts}
 use Rattle.faults.specs.Seen.{Listing, Edging}
 use Rattle.steps.specs.Running.{Staffed, Planned, Running}
 use Rattle.value.specs.View.{first-calls, core-of}
 use Rattle.value.specs.declared.Net.{Net}
 use Rattle.value.proofs.NodeLaws.{listed-there, node-inside, site-there, level-there}
-use Rattle.apart.specs.Apart.{Holding, Numberable, Numbers, Keyed, Keyable, Keys}
+use Rattle.apart.specs.Apart.{Numberable, Numbers, Keyable, Keys}
 use Rattle.apart.proofs.ApartLaws.{first-length}
-use Rattle.tally.specs.Tally.{Placing, Counting, CountsTell, CanRoom, Unlimited}
-use Rattle.rules.specs.Rules.{CallsCounted, TicketsSeen, NodesSeen, ParentsSeen, AllParentsSeen, SettledSeen}
+use Rattle.tally.specs.Tally.{Counting, CanRoom}
+use Rattle.rules.specs.Rules.{CallsCounted, TicketsSeen, NodesSeen, AllParentsSeen, SettledSeen}
 use Rattle.entry.specs.Entry.{Zeros, FirstTested, NumberTested, NumberKept, FirstKept, CallTested, CallKept, SiteKept}
 use Rattle.entry.proofs.BrokenLaws.{rs, cs, core}
 

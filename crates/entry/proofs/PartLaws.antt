@@ -1,9 +1,8 @@
 -- The answer of a part: a number that is not 0 and is the first broken rule, or 0 with what was shown; and the plan's test as the model has
 -- it. Assumes nothing.
 use Prim.Native.Nat.{ℕ, _≤_}
-use mathlib.Core.Path.{_≡_, refl, sym, ap, _∙_}
-use mathlib.Core.Bool.{Bool, true, false, _&&_}
-use lib.Dec.{leb}
+use mathlib.Core.Path.{_≡_, refl, ap}
+use mathlib.Core.Bool.{Bool, _&&_}
 use borrow.Author.Tests.{le-leb}
 use Rattle.ids.specs.Limits.{most-edges}
 use Rattle.model.specs.Plan.{six, passes}

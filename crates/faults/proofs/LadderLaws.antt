@@ -1,23 +1,23 @@
 -- The ladders of a command's tests, rung by rung: each number of the order where its test fails and those before it pass, in terms of who is found by a ticket.
 -- Assumes nothing.
-use Prim.Native.Nat.{ℕ, _+_, _*_, _≤_, _<_}
+use Prim.Native.Nat.{ℕ, _≤_, _<_}
 use native.Mathlib.Omega.{arith}
 use mathlib.Core.Path.{_≡_, refl, sym, ap, _∙_}
 use mathlib.Core.Logic.{⊎-elim}
-use mathlib.Core.Bool.{Bool, true, false, not, cond}
+use mathlib.Core.Bool.{Bool, true, false, not}
 use mathlib.Core.List.{List}
 use mathlib.Core.Option.{Option, none, some}
 use lib.ListN.{length, getD, List·getD-eq-default}
 use lib.Dec.{eqb}
 use borrow.Author.Tests.{eq-eqb, ne-eqb, lt-ltb, le-ltb}
-use Rattle.ids.specs.Limits.{no-ticket, most-open, most-threads, nodes}
+use Rattle.ids.specs.Limits.{no-ticket, most-open, nodes}
 use Rattle.lists.specs.Count.{first, some as holds-below}
 use Rattle.lists.specs.Pick.{first-place}
 use Rattle.lists.proofs.CountLaws.{never-both, lt-or-ge}
 use Rattle.lists.proofs.PickLaws.{count-some, found-in}
 use Rattle.model.specs.Plan.{Record, has-edge}
 use Rattle.model.specs.PlanValue.{nowhere as nowhere-place, somewhere}
-use Rattle.model.specs.Net.{Call, Core, has-node, site-of, level-of, has, lookup, has-child}
+use Rattle.model.specs.Net.{Call, Core, has-node, has, lookup, has-child}
 use Rattle.model.specs.Command.{start, call, return, take-back, fault}
 use Rattle.record.specs.Step.{listed-node}
 use Rattle.table.specs.Places.{holds, Searched}

@@ -1,11 +1,9 @@
 -- What the tests of a command look at: the tickets, parents, keys and nodes of the open calls, the sites of the nodes and the table of edges. For the contracts
 -- of `faults`. Assumes nothing.
-use Prim.Native.Nat.{ℕ, _+_, _*_, _<_}
+use Prim.Native.Nat.{ℕ}
 use mathlib.Core.Path.{_≡_}
-use mathlib.Core.Bool.{not}
 use mathlib.Core.List.{List}
-use lib.ListN.{length, getD}
-use lib.Dec.{eqb}
+use lib.ListN.{length}
 use Rattle.ids.specs.Limits.{nodes}
 use Rattle.lists.specs.Pick.{first-place}
 use Rattle.model.specs.Plan.{Record, has-edge}

@@ -1,8 +1,8 @@
 -- The room at a level, counted by admitting calls one after another, is the smallest T - j - A[j] over j from 0 to the level: each admission takes one from every
 -- one of them, and the first that is 0 ends it. By induction over the admissions. Assumes nothing.
-use Prim.Native.Nat.{ℕ, zero, suc, _+_, _-_, _≤_, _<_, min}
+use Prim.Native.Nat.{ℕ, zero, suc, _-_, _≤_, _<_, min}
 use native.Mathlib.Omega.{arith}
-use mathlib.Core.Path.{_≡_, refl, sym, subst, _∙_}
+use mathlib.Core.Path.{_≡_, refl}
 use mathlib.Core.Logic.{_↔_}
 use mathlib.Core.Bool.{Bool, true, false, cond}
 use mathlib.Core.List.{List}
@@ -10,7 +10,7 @@ use lib.ListN.{length}
 use lib.Dec.{ltb}
 use Rattle.lists.specs.Count.{smallest}
 use Rattle.lists.proofs.CountLaws.{and-right, never-both, smallest-le, smallest-less, smallest-above}
-use Rattle.model.specs.Site.{A, lawful, raised, may-admit, full, blocking, spare, admitted, room}
+use Rattle.model.specs.Site.{lawful, raised, may-admit, blocking, spare, admitted, room}
 use Rattle.model.proofs.SiteLaws.{A-raised, lawful-at, full-is, raised-length}
 use Rattle.model.proofs.BlockingLaws.{blocked-by}
 

@@ -8,20 +8,20 @@ use mathlib.Core.List.{List}
 use mathlib.Core.Option.{Option, none, some}
 use lib.ListN.{length, getD}
 use lib.Dec.{eqb, ltb}
-use borrow.Author.Tests.{eq-eqb, ne-eqb, ltb-false}
+use borrow.Author.Tests.{eq-eqb, ne-eqb}
 use Rattle.ids.specs.Limits.{most-open, most-edges}
 use Rattle.model.specs.Plan.{Record}
 use Rattle.model.specs.PlanValue.{records-of}
 use Rattle.model.specs.Net.{Call, lookup}
 use Rattle.model.specs.NetRules.{broken-rule}
-use Rattle.model.specs.Command.{Command, Outcome, step, Standing, standing, ask, Roomed, has-room, room-refused, room-at}
+use Rattle.model.specs.Command.{Command, step, Standing, standing, ask, room-at}
 use Rattle.model.specs.Refusals.{net-refusal}
 use Rattle.model.proofs.NetRuleLaws.{rules-exactly}
 use Rattle.model.proofs.StepLaws.{step-plan}
 use Rattle.moves.specs.Held.{Arrays, Held}
 use Rattle.steps.specs.Running.{Stepped, Running, RoomSeen}
 use Rattle.text.specs.declared.Printed.{Printed}
-use Rattle.value.specs.View.{call-of, spare, first-calls, core-of, row-of, broken}
+use Rattle.value.specs.View.{spare, core-of, row-of, broken}
 use Rattle.value.specs.Handed.{outcome-value, command-answered, standing-value, ask-answered, room-value, room-answered}
 use Rattle.value.specs.declared.Net.{Net}
 use Rattle.value.specs.declared.Commanded.{Commanded}
@@ -31,7 +31,7 @@ use Rattle.value.specs.declared.NetRoom.{NetRoom}
 use Rattle.lookup.specs.Lookup.{place-in}
 use Rattle.lookup.proofs.FoundLaws.{Stands-at, nowhere, there, stands-at}
 use Rattle.apart.proofs.ApartLaws.{first-length}
-use Rattle.pack.specs.Packed.{Packing, Handing}
+use Rattle.pack.specs.Packed.{Handing}
 
 module _ (net : Net) where
   its-plan : core-of net .plan ≡ records-of (net .plan)

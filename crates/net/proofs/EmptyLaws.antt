@@ -1,16 +1,15 @@
 -- The value of a net without calls, and what is made from a plan. Assumes nothing.
-use Prim.Native.Nat.{ℕ, zero, suc, _*_, _/_, _%_, _<_}
-use mathlib.Core.Path.{_≡_, refl, sym, ap, ap₂, _∙_}
+use Prim.Native.Nat.{ℕ, _*_, _%_}
+use mathlib.Core.Path.{_≡_, sym, ap, ap₂, _∙_}
 use mathlib.Core.Bool.{cond}
 use mathlib.Core.List.{List, []}
-use lib.ListN.{length, getD, replicate, length-replicate, getD-replicate}
+use lib.ListN.{replicate, length-replicate, getD-replicate}
 use lib.Dec.{eqb}
 use borrow.Author.Tests.{ne-eqb}
 use Rattle.ids.specs.Limits.{sites, most-threads, most-open}
 use Rattle.lists.specs.Pick.{tell, passes-at}
 use Rattle.lists.proofs.TabledLaws.{tabled-is}
 use Rattle.model.specs.PlanValue.{records-of, refusal-number}
-use Rattle.model.specs.PlanFault.{plan-fault, checked-plan}
 use Rattle.model.specs.Net.{counts}
 use Rattle.model.specs.Refusals.{plan-refusal}
 use Rattle.model.specs.declared.Plan.{Plan}

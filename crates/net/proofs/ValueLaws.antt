@@ -2,14 +2,13 @@
 -- Assumes nothing.
 use Prim.Native.Nat.{ℕ, _+_, _*_, _/_, _%_, _≤_, _<_}
 use native.Mathlib.Omega.{arith}
-use mathlib.Core.Path.{_≡_, refl, sym, ap, ap₂, subst, _∙_}
+use mathlib.Core.Path.{_≡_, refl, sym, ap, ap₂, _∙_}
 use mathlib.Core.Bool.{Bool, true, false, cond}
 use mathlib.Core.List.{List}
 use lib.ListN.{length, getD}
 use lib.Dec.{ltb}
 use borrow.Author.Tests.{le-ltb, ltb-false}
 use Rattle.ids.specs.Limits.{sites, most-threads, most-open, most-edges}
-use Rattle.lists.specs.Tabled.{tabled}
 use Rattle.lists.proofs.PlaceLaws.{tell-there, passes-there}
 use Rattle.lists.proofs.TabledLaws.{getD-tabled, tabled-is}
 use Rattle.model.specs.Plan.{Record}

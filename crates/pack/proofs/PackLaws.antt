@@ -2,11 +2,11 @@
 -- its site and level. Assumes nothing.
 use Prim.Native.Nat.{ℕ, _+_, _*_, _/_, _%_, _≤_, _<_}
 use native.Mathlib.Omega.{arith}
-use mathlib.Core.Path.{_≡_, refl, sym, ap, subst, _∙_}
+use mathlib.Core.Path.{_≡_, sym, ap, _∙_}
 use mathlib.Core.Logic.{⊎-elim}
-use mathlib.Core.Bool.{Bool, true, false}
+use mathlib.Core.Bool.{Bool}
 use mathlib.Core.List.{List}
-use lib.ListN.{length, getD}
+use lib.ListN.{getD}
 use Rattle.ids.specs.Limits.{sites, most-threads}
 use Rattle.lists.proofs.CountLaws.{lt-or-ge, not-false-so}
 use Rattle.lists.proofs.TabledLaws.{tabled-is}
@@ -23,7 +23,7 @@ use Rattle.value.specs.Handed.{table-of, count-at, counts-table, value-of}
 use Rattle.value.specs.declared.Call.{Call as CallValue}
 use Rattle.value.specs.declared.Net.{Net}
 use Rattle.value.proofs.NodeLaws.{node-inside, site-there, level-there}
-use Rattle.tally.specs.Tally.{CountsTell, TooMany, CountTold, Counting}
+use Rattle.tally.specs.Tally.{CountsTell, CountTold, Counting}
 use Rattle.pack.specs.Packed.{Packing}
 
 module _ {plan : Plan} (sized : Sized plan) {cs : List Call} {tickets parents keys nodes : List ℕ} {used : ℕ}

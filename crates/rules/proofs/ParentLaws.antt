@@ -1,16 +1,15 @@
 -- A parent is found by its ticket; its key says whether it is active, and the words of the edges whether its node may call the child's. Assumes nothing.
-use Prim.Native.Nat.{ℕ, _+_, _*_, _≤_, _<_}
+use Prim.Native.Nat.{ℕ, _<_}
 use native.Mathlib.Omega.{arith}
-use mathlib.Core.Path.{_≡_, refl, sym, ap, subst, _∙_}
-use mathlib.Core.Bool.{Bool, true, false, not, _&&_, _||_}
-use mathlib.Core.List.{List, List·Memᴰ}
+use mathlib.Core.Path.{_≡_, sym, ap, _∙_}
+use mathlib.Core.Bool.{Bool, true, false, _&&_, _||_}
+use mathlib.Core.List.{List}
 use mathlib.Core.Option.{Option, none, some}
 use lib.ListN.{length, getD}
 use lib.Dec.{eqb}
 use borrow.Author.Tests.{eq-eqb, ne-eqb}
 use Rattle.ids.specs.Limits.{most-open, no-ticket, nodes}
 use Rattle.lists.specs.Count.{first}
-use Rattle.lists.specs.Pick.{first-place}
 use Rattle.lists.proofs.PickLaws.{found-in}
 use Rattle.lists.proofs.PlaceLaws.{tell-there, member-there}
 use Rattle.model.specs.Plan.{Record, has-edge}
@@ -23,7 +22,6 @@ use Rattle.moves.proofs.TableLaws.{Found-at, nowhere, there, found-at, tells-ta
 use Rattle.words.specs.Words.{member}
 use Rattle.links.specs.Rows.{linked}
 use Rattle.rules.specs.Rules.{ParentSeen, AllParentsSeen}
-use Rattle.rules.proofs.CallLaws.{place-inside}
 
 -- what is asked of a parent
 abbrev pub Kept : List Record → List Call → ℕ → ℕ → Bool

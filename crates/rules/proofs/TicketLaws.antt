@@ -4,13 +4,13 @@ use native.Mathlib.Omega.{arith}
 use mathlib.Core.Path.{_≡_, refl, sym, ap, subst, _∙_}
 use mathlib.Core.Logic.{⊎-elim}
 use mathlib.Core.Bool.{Bool, true, false, not, cond, _&&_}
-use mathlib.Core.List.{List, List·Memᴰ}
+use mathlib.Core.List.{List}
 use lib.ListN.{length, getD}
-use lib.Dec.{leb, eqb}
+use lib.Dec.{eqb}
 use borrow.Author.Tests.{eq-eqb, ne-eqb, eqb-true, le-leb, lt-leb}
 use Rattle.ids.specs.Limits.{most-open, no-ticket}
 use Rattle.lists.specs.Count.{first}
-use Rattle.lists.specs.Pick.{count, any, all, tell, passes-at, first-place}
+use Rattle.lists.specs.Pick.{count, any, tell, passes-at, first-place}
 use Rattle.lists.proofs.CountLaws.{lt-or-ge, never-both, and-both}
 use Rattle.lists.proofs.TellLaws.{passes-past}
 use Rattle.lists.proofs.PlaceLaws.{tell-there, passes-there, all-places, one-fails, any-there, at-most-one, more-than-one}

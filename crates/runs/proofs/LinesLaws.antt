@@ -14,7 +14,7 @@ use Rattle.model.specs.Transcript as transcript
 use Rattle.model.specs.Transcript.{command-kinds, request, line, after, lines-by, lines}
 use Rattle.model.proofs.HouseLaws.{whole-split}
 use Rattle.model.proofs.TranscriptLaws.{lines-enough}
-use Rattle.decode.specs.Asked.{asked, next-in, from-next, request-of}
+use Rattle.decode.specs.Asked.{asked, request-at, request-from, request-of}
 use Rattle.decode.specs.declared.Request.{Request}
 use Rattle.decode.specs.declared.NextRequest.{NextRequest}
 use Rattle.decode.proofs.AskedLaws.{asked-request}
@@ -30,10 +30,10 @@ pub record WholeRequest (bytes : List ℕ) (at : ℕ) (q : Request) (behind : �
   pub asked-is : asked q ≡ request kind body
   pub behind-is : behind ≡ at + suc (length body)
 
-pub whole-found : (bytes : List ℕ) (at : ℕ) (q : Request) (behind : ℕ) → NextRequest.Whole q behind ≡ next-in bytes at → WholeRequest bytes at q behind
+pub whole-found : (bytes : List ℕ) (at : ℕ) (q : Request) (behind : ℕ) → NextRequest.Whole q behind ≡ request-at bytes at → WholeRequest bytes at q behind
 whole-found bytes at q behind e = go (next command-kinds (drop at bytes)) refl e
   where
-    go : (n : Next) → next command-kinds (drop at bytes) ≡ n → NextRequest.Whole q behind ≡ from-next n at → WholeRequest bytes at q behind
+    go : (n : Next) → next command-kinds (drop at bytes) ≡ n → NextRequest.Whole q behind ≡ request-from n at → WholeRequest bytes at q behind
     go lacking is e = let z : _≡_ {A = ℕ} 0 1 = cc in absurd (omega arith)
     go unknown is e = let z : _≡_ {A = ℕ} 0 1 = cc in absurd (omega arith)
     go cut is e = let z : _≡_ {A = ℕ} 0 1 = cc in absurd (omega arith)
@@ -60,7 +60,7 @@ opens : (turns : ℕ) (net : Core) (at count : ℕ) (bytes : List ℕ)
 unfolding lines
 opens turns net at count bytes = refl
 
-turn-tells : (bytes : List ℕ) (net : Core) (at count : ℕ) (q : Request) (behind : ℕ) → NextRequest.Whole q behind ≡ next-in bytes at
+turn-tells : (bytes : List ℕ) (net : Core) (at count : ℕ) (q : Request) (behind : ℕ) → NextRequest.Whole q behind ≡ request-at bytes at
     → (turns : ℕ) → length bytes < turns
     → lines turns net at count (drop at bytes) ≡ line net (asked q) ++ lines turns (after net (asked q)) behind (count + 1) (drop behind bytes)
 turn-tells bytes net at count q behind e zero h = absurd (omega arith)
@@ -104,8 +104,8 @@ last-line Stop.Unknown at commands = bad-line 2 at
 -- "The last line is `done` .. or `bad`": a run that stops at no whole command wrote every line but the last
 pub run-tells : {bytes : List ℕ} {size : ℕ} {first : Core} {from : ℕ} {net : Core} {at commands : ℕ} {text : Text}
     → Went bytes size first from net at commands text
-    → ((q : Request) (behind : ℕ) → NextRequest.Whole q behind ≡ next-in bytes at → ⊥)
-    → lines (suc (length bytes)) first from 0 (drop from bytes) ≡ text ++ last-line (stop-of (next-in bytes at)) at commands
+    → ((q : Request) (behind : ℕ) → NextRequest.Whole q behind ≡ request-at bytes at → ⊥)
+    → lines (suc (length bytes)) first from 0 (drop from bytes) ≡ text ++ last-line (stop-of (request-at bytes at)) at commands
 run-tells {bytes} {first} {from} {net} {at} {commands} {text} went none-whole =
     lines-went went (suc (length bytes)) 0 (omega arith)
     ∙ ap (λ (t : Text). text ++ t) (opens (length bytes) net at (0 + commands) (drop at bytes) ∙ go (next command-kinds (drop at bytes)) none-whole)
@@ -113,8 +113,8 @@ run-tells {bytes} {first} {from} {net} {at} {commands} {text} went none-whole =
     same : 0 + commands ≡ commands
     same = omega arith
 
-    go : (n : Next) → ((q : Request) (behind : ℕ) → NextRequest.Whole q behind ≡ from-next n at → ⊥)
-        → lines-by (lines (length bytes)) net at (0 + commands) n ≡ last-line (stop-of (from-next n at)) at commands
+    go : (n : Next) → ((q : Request) (behind : ℕ) → NextRequest.Whole q behind ≡ request-from n at → ⊥)
+        → lines-by (lines (length bytes)) net at (0 + commands) n ≡ last-line (stop-of (request-from n at)) at commands
     go lacking none-there = ap done-line same
     go unknown none-there = refl
     go cut none-there = refl

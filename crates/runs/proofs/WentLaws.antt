@@ -16,7 +16,7 @@ use Rattle.model.proofs.HouseLaws.{whole-length}
 use Rattle.moves.specs.Held.{Arrays}
 use Rattle.text.specs.Room.{line-room}
 use Rattle.text.proofs.PutLaws.{put-then}
-use Rattle.decode.specs.Asked.{next-in, from-next}
+use Rattle.decode.specs.Asked.{request-at, request-from}
 use Rattle.decode.specs.declared.Request.{Request}
 use Rattle.decode.proofs.NextRequest as next-type
 use Rattle.decode.specs.declared.NextRequest.{NextRequest}
@@ -26,11 +26,11 @@ use Rattle.runs.specs.Went.{Went, nowhere, further, stop-of, Stops, no-c
 use Rattle.runs.specs.declared.Stop.{Stop}
 
 -- the place behind a whole record is further on, and no further than the end
-pub behind-inside : (bytes : List ℕ) (at : ℕ) (request : Request) (behind : ℕ) → NextRequest.Whole request behind ≡ next-in bytes at
+pub behind-inside : (bytes : List ℕ) (at : ℕ) (request : Request) (behind : ℕ) → NextRequest.Whole request behind ≡ request-at bytes at
     → (at < behind) × (behind ≤ length bytes)
 behind-inside bytes at request behind e = go (next command-kinds (drop at bytes)) refl e
   where
-    go : (n : Next) → next command-kinds (drop at bytes) ≡ n → NextRequest.Whole request behind ≡ from-next n at → (at < behind) × (behind ≤ length bytes)
+    go : (n : Next) → next command-kinds (drop at bytes) ≡ n → NextRequest.Whole request behind ≡ request-from n at → (at < behind) × (behind ≤ length bytes)
     go lacking is q = let z : _≡_ {A = ℕ} 0 1 = cc in absurd (omega arith)
     go unknown is q = let z : _≡_ {A = ℕ} 0 1 = cc in absurd (omega arith)
     go cut is q = let z : _≡_ {A = ℕ} 0 1 = cc in absurd (omega arith)
@@ -50,7 +50,7 @@ module _ {first : Core} {used : ℕ} {most-of places levels edges bytes : List �
 
   pub goes-on : {b d : Arrays} {at commands : ℕ} {new newer : List ℕ} {to next-to next-used : ℕ} (request : Request) (behind : ℕ)
       → (on : RunStands first b used most-of places levels edges bytes from at commands old new to)
-      → to + line-room ≤ length old → NextRequest.Whole request behind ≡ next-in bytes at
+      → to + line-room ≤ length old → NextRequest.Whole request behind ≡ request-at bytes at
       → Turned (on .net) request d next-used most-of places levels edges new to newer next-to
       → RunStands first d next-used most-of places levels edges bytes from behind (commands + 1) old newer next-to
   goes-on request behind on room found turned =
@@ -65,7 +65,7 @@ module _ {first : Core} {used : ℕ} {most-of places levels edges bytes : List �
 -- A run stops
 
 -- what is found is no whole command, so that none stands there
-pub no-whole : {bytes : List ℕ} {at room : ℕ} {why : Stop} (found : NextRequest) → line-room ≤ room → found ≡ next-in bytes at
+pub no-whole : {bytes : List ℕ} {at room : ℕ} {why : Stop} (found : NextRequest) → line-room ≤ room → found ≡ request-at bytes at
     → OneOf (1 ∷ 2 ∷ 3 ∷ []) (tagOf next-type.the-type found) → why ≡ stop-of found → Stops bytes at room why
 no-whole found fits is tag says = no-command fits (λ request behind e. go found tag request behind (e ∙ sym is)) (says ∙ ap stop-of is)
   where

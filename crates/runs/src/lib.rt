@@ -3,7 +3,7 @@
 ghost use mathlib.Core.Path.{_≡_};
 ghost use Rattle.moves.specs.Held.{arrays};
 ghost use Rattle.turns.specs.Turn.{Answerable};
-ghost use Rattle.runs.specs.Went.{stop-of, Runs};
+ghost use Rattle.runs.specs.Went.{stop-of, ArraysRun};
 use decode::NextRequest;
 
 // Why a run stops.
@@ -59,7 +59,7 @@ pub fn run<'a>(
     text: &mut [u8],
 ) -> Ran
     requires { ⌜ Answerable (arrays (now tickets) (now parents) (now keys) (now nodes) (now rooms)) used (now threads) (now places) (now levels) (now edges) ⌝ }
-    ensures { λ r. ⌜ Runs (arrays (now (tickets .entry)) (now (parents .entry)) (now (keys .entry)) (now (nodes .entry)) (now (rooms .entry))) (arrays (now (tickets .exit)) (now (parents .exit)) (now (keys .exit)) (now (nodes .exit)) (now (rooms .exit))) used r (now (threads .entry)) (now (places .entry)) (now (levels .entry)) (now (edges .entry)) (now (bytes .entry)) from (now (text .entry)) (now (text .exit)) ⌝ }
+    ensures { λ r. ⌜ ArraysRun (arrays (now (tickets .entry)) (now (parents .entry)) (now (keys .entry)) (now (nodes .entry)) (now (rooms .entry))) (arrays (now (tickets .exit)) (now (parents .exit)) (now (keys .exit)) (now (nodes .exit)) (now (rooms .exit))) used r (now (threads .entry)) (now (places .entry)) (now (levels .entry)) (now (edges .entry)) (now (bytes .entry)) from (now (text .entry)) (now (text .exit)) ⌝ }
 {
     let mut calls = used;
     let mut at = from;

@@ -2,17 +2,15 @@
 use Prim.Native.Nat.{ℕ, zero, suc, _+_, _*_, _≤_, _<_}
 use native.Mathlib.Omega.{arith}
 use native.Mathlib.Numerals.{add-one}
-use native.Mathlib.Nat.{not-suc-le-zero, le-of-suc-le-suc}
 use mathlib.Core.Path.{_≡_, refl, sym, ap, subst, _∙_}
 use mathlib.Core.Bool.{Bool, true, false}
-use mathlib.Core.List.{List, [], _∷_, _++_, List·Memᴰ, List·Memᴰ·head, List·Memᴰ·tail}
+use mathlib.Core.List.{List, [], _∷_, _++_}
 use lib.ListN.{length, getD, take, replicate, length-replicate, getD-replicate}
 use lib.Seq.{take-suc, take-all}
 use Rattle.ids.specs.Limits.{sites, most-threads}
-use Rattle.lists.specs.Count.{one}
-use Rattle.lists.specs.Pick.{count, tell}
+use Rattle.lists.specs.Pick.{count}
 use Rattle.lists.proofs.PlaceLaws.{tell-there, member-there}
-use Rattle.model.specs.Plan.{Record, six, passes}
+use Rattle.model.specs.Plan.{Record}
 use Rattle.model.specs.Net.{Call, counts}
 use Rattle.model.proofs.CountsLaws.{of-level, counts-at}
 use Rattle.moves.specs.Held.{key-of, node-number}

@@ -8,9 +8,9 @@ use lib.ListN.{length, getD}
 use lib.Dec.{eqb}
 use borrow.Author.Tests.{eqb-true, eq-eqb}
 use Rattle.ids.specs.Limits.{sites, most-threads}
-use Rattle.lists.specs.Count.{some, every}
+use Rattle.lists.specs.Count.{some}
 use Rattle.lists.specs.Tabled.{tabled}
-use Rattle.lists.proofs.CountLaws.{never-both, not-true-false, not-false-so, not-false-true, denied, every-at, every-all}
+use Rattle.lists.proofs.CountLaws.{never-both, not-true-false, not-false-true, denied, every-at, every-all}
 use Rattle.lists.proofs.BlockLaws.{some-none, none-some}
 use Rattle.lists.proofs.TabledLaws.{getD-tabled, tabled-is}
 use Rattle.model.specs.Plan.{Record}

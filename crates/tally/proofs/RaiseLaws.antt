@@ -1,25 +1,24 @@
 -- One call more in an array of counts: one more at its site and level where it is active. Shown through how many active calls have a level. Assumes nothing.
-use Prim.Native.Nat.{ℕ, zero, suc, _+_, _*_, _≤_, _<_}
+use Prim.Native.Nat.{ℕ, _+_, _*_, _≤_, _<_}
 use native.Mathlib.Omega.{arith}
 use mathlib.Core.Path.{_≡_, refl, sym, ap, subst, _∙_}
 use mathlib.Core.Logic.{⊎-elim}
-use mathlib.Core.Bool.{Bool, true, false, _&&_, cond}
+use mathlib.Core.Bool.{Bool, true, false, _&&_}
 use mathlib.Core.List.{List, [], _∷_, _++_}
-use lib.ListN.{length, getD, set, length-set, take}
+use lib.ListN.{length, getD, set, length-set}
 use lib.Seq.{getD-set-same, getD-set-other}
 use lib.Dec.{eqb}
-use borrow.Author.Tests.{eq-eqb, eqb-true, eqb-false}
+use borrow.Author.Tests.{eq-eqb, eqb-true}
 use Rattle.ids.specs.Limits.{sites, most-threads}
 use Rattle.lists.specs.Count.{one}
-use Rattle.lists.specs.Pick.{count}
-use Rattle.lists.proofs.CountLaws.{true-or-false, never-both, not-true-false}
+use Rattle.lists.proofs.CountLaws.{true-or-false, never-both}
 use Rattle.lists.proofs.PickLaws.{count-more}
 use Rattle.model.specs.Plan.{Record, six, passes}
-use Rattle.model.specs.Net.{Call, site-of, level-of, is-on, active-on, counts}
+use Rattle.model.specs.Net.{Call, site-of, level-of, is-on, active-on}
 use Rattle.model.proofs.PlaceLaws.{site-small, level-small}
 use Rattle.model.proofs.CountsLaws.{of-level, counts-at}
 use Rattle.moves.proofs.KeyLaws.{key-active, key-waits}
-use Rattle.tally.specs.Tally.{CountsTell, TooMany, Behind, CountTold}
+use Rattle.tally.specs.Tally.{CountsTell, Behind, CountTold}
 
 -- who is counted at a level of a site
 counted-there : (rs : List Record) (c : Call) → c .active ≡ true → of-level rs (site-of rs (c .node)) (level-of rs (c .node)) c ≡ true

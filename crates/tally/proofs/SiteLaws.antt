@@ -1,15 +1,15 @@
 -- The rooms of a site from its highest level down: what is above a level is added up on the way, and each level is tested as it is passed. Assumes nothing.
 use Prim.Native.Nat.{ℕ, suc, _+_, _-_, _≤_, _<_}
 use native.Mathlib.Omega.{arith}
-use mathlib.Core.Path.{_≡_, refl, sym, ap, subst, _∙_}
+use mathlib.Core.Path.{_≡_, sym, ap, subst, _∙_}
 use mathlib.Core.Logic.{⊎-elim}
-use mathlib.Core.Bool.{Bool, true, false}
+use mathlib.Core.Bool.{true, false}
 use mathlib.Core.List.{List}
 use lib.ListN.{length, getD, set, length-set}
 use lib.Seq.{getD-set-same, getD-set-other}
 use Rattle.ids.specs.Limits.{most-threads}
 use Rattle.lists.specs.Fill.{Filled}
-use Rattle.lists.proofs.CountLaws.{lt-or-ge, never-both, not-true-false}
+use Rattle.lists.proofs.CountLaws.{lt-or-ge, not-true-false}
 use Rattle.lists.proofs.FillLaws.{filled-none}
 use Rattle.model.specs.Site.{A, lawful}
 use Rattle.model.proofs.SiteLaws.{A-step, lawful-at, lawful-all}

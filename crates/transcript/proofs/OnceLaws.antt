@@ -1,10 +1,10 @@
 -- The promise of a run has one solution: two ways of the same length are the same, a way that stopped can't be gone further, and what stops it is decided by
 -- the room first. Assumes nothing.
-use Prim.Native.Nat.{ℕ, suc, _+_, _-_, _≤_, _<_}
+use Prim.Native.Nat.{ℕ, _+_, _-_, _≤_, _<_}
 use native.Mathlib.Omega.{arith}
 use mathlib.Core.Path.{_≡_, refl, sym, ap, subst, _∙_}
 use mathlib.Core.Logic.{⊎-elim}
-use mathlib.Core.List.{List, _++_}
+use mathlib.Core.List.{List}
 use lib.ListN.{length}
 use lib.Seq.{sets}
 use lib.Dec.{eqb}
@@ -12,18 +12,16 @@ use borrow.Author.Tests.{eqb-true, eqb-false}
 use Rattle.lists.proofs.CountLaws.{lt-or-ge, true-or-false}
 use Rattle.model.specs.Net.{Core}
 use Rattle.model.specs.Text.{Text}
-use Rattle.model.specs.Transcript.{line, after}
 use Rattle.text.specs.Room.{line-room}
 use Rattle.text.proofs.PutLaws.{put-long}
-use Rattle.decode.specs.Asked.{asked, next-in}
+use Rattle.decode.specs.Asked.{request-at}
 use Rattle.decode.specs.declared.Request.{Request}
 use Rattle.decode.specs.declared.NextRequest.{NextRequest}
 use Rattle.runs.specs.Went.{Went, nowhere, further, Stops, full, no-command, stop-of}
-use Rattle.runs.specs.declared.Stop.{Stop}
 use Rattle.value.specs.View.{core-of, broken}
 use Rattle.value.specs.Handed.{value-of}
 use Rattle.value.specs.declared.Net.{Net}
-use Rattle.transcript.specs.Ran.{halt-of, untouched, RanOn, NetRuns}
+use Rattle.transcript.specs.Ran.{halt-of, RanOn, NetRuns}
 use Rattle.transcript.specs.declared.Halt.{Halt}
 use Rattle.transcript.specs.declared.NetRan.{NetRan}
 
@@ -36,7 +34,7 @@ record Passed (bytes : List ℕ) (size : ℕ) (first : Core) (from n : ℕ) : Ty
   pub room : length lines + line-room ≤ size
   pub request : Request
   pub behind : ℕ
-  pub there : NextRequest.Whole request behind ≡ next-in bytes at
+  pub there : NextRequest.Whole request behind ≡ request-at bytes at
 
 module _ {bytes : List ℕ} {size : ℕ} {first : Core} {from : ℕ} where
   -- two ways of the same length
@@ -47,7 +45,7 @@ module _ {bytes : List ℕ} {size : ℕ} {first : Core} {from : ℕ} where
   same-way (further w room q b e) nowhere k = absurd (omega arith)
   same-way (further {at = at} w room q b e) (further {at = to} v space p d f) k =
       let yet = same-way w v (omega arith) in
-      let there : NextRequest.Whole q b ≡ NextRequest.Whole p d = e ∙ ap (next-in bytes) (yet .1) ∙ sym f in
+      let there : NextRequest.Whole q b ≡ NextRequest.Whole p d = e ∙ ap (request-at bytes) (yet .1) ∙ sym f in
       let asks : q ≡ p = cc in
       let behind : b ≡ d = cc in
       let same-net = yet .0 in
@@ -73,7 +71,7 @@ module _ {net : Net} {bytes : List ℕ} {from : ℕ} {old : List ℕ} where
 
       go : Stops bytes (r .at) (length new - r .to) (ran .why) → ⊥
       go (full low e) = omega (arith, low, on .room, ap length (same .2), ran .written .end-is, put-long (ran .written))
-      go (no-command fits none e) = none (on .request) (on .behind) (on .there ∙ ap (next-in bytes) (same .1))
+      go (no-command fits none e) = none (on .request) (on .behind) (on .there ∙ ap (request-at bytes) (same .1))
 
   module _ {new newer : List ℕ} {r q : NetRan} (ran : RanOn net bytes from old new r) (also : RanOn net bytes from old newer q) where
     same-count : r .commands ≡ q .commands
@@ -101,7 +99,7 @@ module _ {net : Net} {bytes : List ℕ} {from : ℕ} {old : List ℕ} where
         go (full low e) (full low′ f) = e ∙ sym f
         go (full low e) (no-command fits none f) = absurd (omega (arith, low, fits, same-to, ap length same-text))
         go (no-command fits none e) (full low f) = absurd (omega (arith, low, fits, same-to, ap length same-text))
-        go (no-command fits none e) (no-command fits′ none′ f) = e ∙ ap (λ (at : ℕ). stop-of (next-in bytes at)) (ways .1) ∙ sym f
+        go (no-command fits none e) (no-command fits′ none′ f) = e ∙ ap (λ (at : ℕ). stop-of (request-at bytes at)) (ways .1) ∙ sym f
 
 same-ran : {n m : Net} {a b c d e f : ℕ} {h k : Halt} → n ≡ m → a ≡ b → c ≡ d → e ≡ f → h ≡ k
     → _≡_ {A = NetRan} (record { net = n; at = a; to = c; commands = e; why = h }) (record { net = m; at = b; to = d; commands = f; why = k })

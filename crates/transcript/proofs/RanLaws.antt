@@ -1,6 +1,5 @@
 -- A run keeps the plan, so that what the arrays hold behind it is packed over the plan that came in; and its promise has one solution. Assumes nothing.
-use Prim.Native.Nat.{ℕ, _+_, _-_, _≤_, _<_}
-use native.Mathlib.Omega.{arith}
+use Prim.Native.Nat.{ℕ, _-_}
 use mathlib.Core.Path.{_≡_, refl, sym, ap, subst, _∙_}
 use mathlib.Core.Logic.{⊎-elim}
 use mathlib.Core.List.{List}
@@ -24,7 +23,7 @@ use Rattle.value.specs.View.{core-of, broken}
 use Rattle.value.specs.Handed.{value-of}
 use Rattle.value.specs.declared.Net.{Net}
 use Rattle.pack.specs.Packed.{Packing}
-use Rattle.transcript.specs.Ran.{halt-of, untouched, RanOn, NetRuns}
+use Rattle.transcript.specs.Ran.{halt-of, untouched, NetRuns}
 use Rattle.transcript.specs.declared.Halt.{Halt}
 use Rattle.transcript.specs.declared.NetRan.{NetRan}
 

@@ -1,14 +1,14 @@
 -- What stands in a plan's arrays for a node that has a record, whoever made the plan: its site and its level. From the lookups in the records. Assumes nothing.
 use Prim.Native.Nat.{ℕ, _<_}
 use native.Mathlib.Omega.{arith}
-use mathlib.Core.Path.{_≡_, refl, sym, ap, _∙_}
+use mathlib.Core.Path.{_≡_, sym, ap, _∙_}
 use mathlib.Core.Logic.{⊎-elim}
-use mathlib.Core.Bool.{Bool, true, false, cond}
-use mathlib.Core.Option.{Option, none, some}
-use lib.ListN.{length, getD}
+use mathlib.Core.Bool.{Bool, true, cond}
+use mathlib.Core.Option.{none, some}
+use lib.ListN.{getD}
 use Rattle.ids.specs.Limits.{nodes}
 use Rattle.lists.proofs.CountLaws.{lt-or-ge, never-both, getD-inside}
-use Rattle.model.specs.Plan.{Place, present}
+use Rattle.model.specs.Plan.{present}
 use Rattle.model.specs.PlanValue.{records-of, held, nowhere, somewhere}
 use Rattle.model.specs.Net.{has-node, place-site, place-level, site-of, level-of}
 use Rattle.model.specs.declared.Plan.{Plan}

@@ -1,6 +1,6 @@
 -- Which value is handed back: a refused command's very net, and else the one value that holds the calls after it. Assumes nothing.
 use Prim.Native.Nat.{ℕ, _*_, _/_, _%_}
-use mathlib.Core.Bool.{Bool, true, false, cond}
+use mathlib.Core.Bool.{Bool, cond}
 use mathlib.Core.List.{List, []}
 use lib.ListN.{length, getD}
 use lib.Dec.{eqb}
@@ -8,7 +8,7 @@ use Rattle.ids.specs.Limits.{sites, most-threads, most-open}
 use Rattle.lists.specs.Tabled.{tabled}
 use Rattle.lists.specs.Pick.{tell, passes-at}
 use Rattle.model.specs.Plan.{Record}
-use Rattle.model.specs.PlanValue.{empty-plan, records-of, value}
+use Rattle.model.specs.PlanValue.{records-of}
 use Rattle.model.specs.PlanFault.{plan-fault, checked-plan}
 use Rattle.model.specs.Net.{Call, Core, counts}
 use Rattle.model.specs.Command.{Command, Answer, refused, active, waiting, ended, Outcome, step, Standing, is-running, is-waiting, not-open, ask}

@@ -1,7 +1,6 @@
 -- `apart::join` meets its contract: each place that the loop has passed holds its call, and the others are spare. Assumes nothing.
 use Prim.Native.Nat.{_-_, _≤_, _<_}
 use native.Mathlib.Omega.{arith}
-use mathlib.Core.Path.{refl}
 use Rattle.apart.proofs.JoinLaws.{JoinedBelow, joined-none, joined-more, joined-table}
 use borrow.Author.Needs.{needs}
 use Rattle.apart.proofs.join.Statement.{statement}

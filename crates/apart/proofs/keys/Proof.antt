@@ -1,8 +1,6 @@
 -- `apart::keys` meets its contract: up to the place where the loop stands the array holds the keys of the first calls. Assumes nothing.
-use Prim.Native.Nat.{ℕ, _-_, _≤_, _<_}
+use Prim.Native.Nat.{_-_, _≤_, _<_}
 use native.Mathlib.Omega.{arith}
-use mathlib.Core.Path.{refl, subst}
-use Rattle.model.specs.declared.Plan.{Plan}
 use Rattle.model.proofs.HeldLaws.{Sized}
 use Rattle.moves.specs.Held.{Tells}
 use Rattle.value.specs.View.{first-calls}

@@ -1,8 +1,7 @@
 -- `bench::carry` meets its contract: the input stays as long as it was. Assumes nothing.
 use Prim.Native.Nat.{_-_, _≤_}
-use native.Mathlib.Omega.{arith}
-use mathlib.Core.Path.{_≡_, refl, _∙_}
-use lib.ListN.{length, length-set}
+use mathlib.Core.Path.{_≡_}
+use lib.ListN.{length}
 use borrow.Author.Needs.{needs}
 use Rattle.bench.proofs.carry.Statement.{statement}
 use Rattle.bench.proofs.carry.Tie as tie

@@ -1,7 +1,5 @@
 -- `bench::turn` meets its contract: what is read lies within the input, and both buffers stay as long as they were. Assumes nothing.
-use native.Mathlib.Omega.{arith}
-use mathlib.Core.Path.{_≡_, sym, _∙_}
-use lib.ListN.{length}
+use mathlib.Core.Path.{sym, _∙_}
 use lib.Seq.{length-take-le}
 use Rattle.transcript.proofs.RanLaws.{text-long}
 use borrow.Author.Needs.{needs}

@@ -1,11 +1,10 @@
 -- `book::blocking` meets its contract. The loop's invariant: the calls at or above k are counted, and no level above k up to the asked one is full. Assumes nothing.
 use Prim.Native.Nat.{suc, _-_, _≤_}
 use native.Mathlib.Omega.{arith}
-use mathlib.Core.Path.{_≡_, refl, _∙_}
+use mathlib.Core.Path.{_≡_, refl}
 use Rattle.lists.specs.Count.{last}
 use Rattle.lists.proofs.CountLaws.{last-bottom}
 use Rattle.model.specs.Site.{A, full, blocking}
-use Rattle.model.proofs.SiteLaws.{accepted}
 use Rattle.book.proofs.ReadLaws.{counted-from, level-inside, counted-on, more-fits, found-full, passed-on}
 use borrow.Author.Needs.{needs}
 use Rattle.book.proofs.blocking.Statement.{statement}

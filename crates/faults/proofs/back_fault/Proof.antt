@@ -5,7 +5,6 @@ use Rattle.model.specs.Net.{lookup, has}
 use Rattle.moves.proofs.TableLaws.{told-there}
 use Rattle.moves.proofs.KeyLaws.{key-active, key-waits}
 use Rattle.faults.proofs.LadderLaws.{find-fits, nobody-0, not-there, is-there, back-27, back-34, back-0}
-use borrow.Author.Needs.{needs}
 use Rattle.faults.proofs.back_fault.Statement.{statement}
 use Rattle.faults.proofs.back_fault.Tie as tie
 

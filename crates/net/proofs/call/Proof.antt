@@ -1,6 +1,5 @@
 -- `net::call` meets its contract: it is the command of its request. Assumes nothing.
 use mathlib.Core.Path.{refl}
-use borrow.Author.Needs.{needs}
 use Rattle.net.proofs.call.Statement.{statement}
 use Rattle.net.proofs.call.Tie as tie
 

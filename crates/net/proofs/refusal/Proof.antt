@@ -1,6 +1,4 @@
 -- `net::refusal` meets its contract: no fault is 0, and every fault has a number. Assumes nothing.
-use mathlib.Core.Path.{sym, ap, _∙_}
-use Rattle.record.specs.Step.{toldCheck}
 use Rattle.net.proofs.EmptyLaws.{passed-0, refused-18}
 use borrow.Author.Needs.{needs}
 use Rattle.net.proofs.refusal.Statement.{statement}

@@ -1,6 +1,5 @@
 -- `net::take_back` meets its contract: it is the command of its request. Assumes nothing.
 use mathlib.Core.Path.{refl}
-use borrow.Author.Needs.{needs}
 use Rattle.net.proofs.take_back.Statement.{statement}
 use Rattle.net.proofs.take_back.Tie as tie
 

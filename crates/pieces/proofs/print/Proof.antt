@@ -1,5 +1,4 @@
 -- `pieces::print` is safe: what is written lies within the text. Assumes nothing.
-use native.Mathlib.Omega.{arith}
 use mathlib.Core.Path.{sym}
 use lib.Seq.{length-take-le}
 use borrow.Author.Needs.{needs}

@@ -1,5 +1,4 @@
 -- `pieces::try_length` is safe: the text that is lent is as long as was asked for. Assumes nothing.
-use native.Mathlib.Omega.{arith}
 use mathlib.Core.Path.{sym}
 use lib.Seq.{length-take-le}
 use borrow.Author.Needs.{needs}

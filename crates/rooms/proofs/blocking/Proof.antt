@@ -2,7 +2,7 @@
 -- Assumes nothing.
 use Prim.Native.Nat.{suc, _≤_}
 use native.Mathlib.Omega.{arith}
-use mathlib.Core.Path.{_≡_, refl}
+use mathlib.Core.Path.{_≡_}
 use borrow.Author.Tests.{eq-eqb, ne-eqb}
 use Rattle.lists.specs.Count.{last}
 use Rattle.lists.proofs.CountLaws.{last-here, last-lower, last-bottom}

@@ -1,5 +1,5 @@
 -- `rules::nodes_known` meets its contract: whichever calls the array holds, those before the loop's place have known nodes. Assumes nothing.
-use Prim.Native.Nat.{ℕ, _-_, _≤_, _<_}
+use Prim.Native.Nat.{_-_, _≤_}
 use native.Mathlib.Omega.{arith}
 use mathlib.Core.Path.{refl, _∙_}
 use mathlib.Core.List.{List}

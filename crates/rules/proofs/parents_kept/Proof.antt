@@ -1,5 +1,5 @@
 -- `rules::parents_kept` meets its contract: whichever calls the arrays hold, those before the loop's place have their parents. Assumes nothing.
-use Prim.Native.Nat.{ℕ, _-_, _≤_, _<_}
+use Prim.Native.Nat.{_-_, _≤_}
 use native.Mathlib.Omega.{arith}
 use mathlib.Core.Path.{refl, _∙_}
 use mathlib.Core.List.{List}

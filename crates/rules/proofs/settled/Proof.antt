@@ -1,5 +1,5 @@
 -- `rules::settled` meets its contract: whichever net the arrays hold, nobody could be woken at the sites before the loop's. Assumes nothing.
-use Prim.Native.Nat.{ℕ, _-_, _≤_, _<_}
+use Prim.Native.Nat.{_-_, _≤_}
 use native.Mathlib.Omega.{arith}
 use mathlib.Core.List.{List}
 use Rattle.model.specs.Plan.{Record}

@@ -1,5 +1,5 @@
 -- `rules::tickets_kept` meets its contract: whichever calls the array holds, each ticket before the loop's place is found first at its own. Assumes nothing.
-use Prim.Native.Nat.{ℕ, _-_, _≤_, _<_}
+use Prim.Native.Nat.{_-_, _≤_}
 use native.Mathlib.Omega.{arith}
 use mathlib.Core.List.{List}
 use Rattle.model.specs.Net.{Call}

@@ -9,7 +9,7 @@ use Rattle.model.specs.Net.{Core}
 use Rattle.moves.specs.Held.{arrays}
 use Rattle.text.specs.Room.{line-room}
 use Rattle.text.proofs.PutLaws.{put-long}
-use Rattle.decode.specs.Asked.{next-in}
+use Rattle.decode.specs.Asked.{request-at}
 use Rattle.decode.specs.declared.NextRequest.{NextRequest}
 use Rattle.steps.specs.Running.{Running}
 use Rattle.runs.specs.Went.{RunStands, full}
@@ -146,7 +146,7 @@ turned-at c =
 
 abbrev whole-there : (c : tie.After-found Inv-loop μ-loop) → let asked = c .before .before in
     let on = asked .before .before in
-    NextRequest.Whole (c .found .given .0 .0) (c .found .given .0 .1 .0) ≡ next-in (now (entry on .args .bytes)) (on .loop .at)
+    NextRequest.Whole (c .found .given .0 .0) (c .found .given .0 .1 .0) ≡ request-at (now (entry on .args .bytes)) (on .loop .at)
 whole-there c = sym (c .found .given .1) ∙ c .before .before .next-request .ensures
 
 abbrev moves-on : (c : tie.After-found Inv-loop μ-loop) → let asked = c .before .before in

@@ -1,5 +1,5 @@
 -- `tally::count` meets its contract: whichever calls the arrays hold, the counts up to the loop's place are those of the calls before it. Assumes nothing.
-use Prim.Native.Nat.{ℕ, _-_, _≤_, _<_}
+use Prim.Native.Nat.{_-_, _≤_}
 use native.Mathlib.Omega.{arith}
 use mathlib.Core.List.{List}
 use mathlib.Core.Path.{_≡_, refl, _∙_}

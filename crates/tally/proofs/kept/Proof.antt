@@ -1,5 +1,4 @@
 -- `tally::kept` meets its contract: a count that no byte holds decides, and else the comparison with what was counted. Assumes nothing.
-use Prim.Native.Nat.{ℕ, _≤_}
 use native.Mathlib.Omega.{arith}
 use mathlib.Core.Path.{refl}
 use mathlib.Core.Bool.{false}

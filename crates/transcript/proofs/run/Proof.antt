@@ -1,6 +1,6 @@
 -- `transcript::run` meets its contract: 19 where a rule is broken; else the arrays hold the net, the run goes over them, and what they hold behind it is packed.
 -- Assumes nothing.
-use mathlib.Core.Path.{_≡_, refl, sym}
+use mathlib.Core.Path.{_≡_, sym}
 use lib.ListN.{length}
 use Rattle.model.proofs.HeldLaws.{Sized}
 use Rattle.text.proofs.PutLaws.{put-long}
