@@ -1,4 +1,6 @@
 // A net taken apart into the arrays of a run, and put together again from them. An inner crate: the library's own crates alone call it.
+#![tactic(auto)]
+
 ghost use Rattle.std.specs.Prelude.{◌≡◌};
 ghost use Rattle.value.specs.View.{call_of};
 ghost use Rattle.apart.specs.Apart.{key_in, Numberable, Numbers, Keyable, Keys, Joinable, Joins};
@@ -7,7 +9,7 @@ use ids::{Node, Site, Ticket};
 use value::{Call, Net};
 
 // The table of open calls by itself.
-#[derive(Drop)]
+#[derive(Clone, Copy)]
 pub struct Calls {
     pub calls: [Call; Ticket::OPEN],
 }

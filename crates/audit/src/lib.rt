@@ -1,5 +1,7 @@
 // The checks on a plan's value, which may be anybody's: its records are taken up one after the other in the file's order, each by the step that
 // reads a file's record, and then the whole plan is checked. What passes is handed on in its one form, from which a net is made.
+#![tactic(auto)]
+
 ghost use Rattle.std.specs.Prelude.{◌≡◌, ◌<◌, ◌≤◌, length};
 ghost use Rattle.ids.specs.Limits.{sites, nodes, most_edges};
 ghost use Rattle.model.specs.PlanValue.{records_of};
@@ -12,14 +14,14 @@ use model::{Plan, PlanRecord, PlanRefusal};
 use record::Checked;
 
 // The first fault of a plan, and the plan as it may be kept: in its one form, or the empty plan beside a fault.
-#[derive(Drop)]
+#[derive(Clone, Copy)]
 pub struct Audited {
     pub checked: Checked,
     pub plan: Plan,
 }
 
 // Some records that were taken up: their first fault, and as long as there is none the plan of these records and the last one.
-#[derive(Drop)]
+#[derive(Clone, Copy)]
 struct Audit {
     checked: Checked,
     plan: Plan,

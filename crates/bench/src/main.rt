@@ -1,6 +1,8 @@
 // The bench program of document 01: a plan and then commands from standard input, of any length, and a line for each. What has come is answered before more is
 // read, so that a console behind a pipe has its line at once. Everything that decides anything is `plan`'s, `net`'s and `transcript`'s, and the first line is
 // `shown`'s.
+#![tactic(auto)]
+
 ghost use Rattle.std.specs.Prelude.{◌≡◌, length};
 
 use ids::{Node, Site};
@@ -19,7 +21,7 @@ const PIECES: usize = 18446744073709551615;
 
 // Where the program stands: its net, the bytes that it holds, the place of the next command in them, the offset of the first of them in the whole input,
 // and how many commands were answered.
-#[derive(Drop)]
+#[derive(Clone, Copy)]
 struct Stand {
     net: Net,
     have: usize,

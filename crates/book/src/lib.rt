@@ -1,5 +1,7 @@
 // The site book: which levels may be admitted at a site with some threads and some active calls. Every function takes the thread count and the
 // 64 counts of active calls by level, and answers a refusal where they are not those of a lawful site.
+#![tactic(auto)]
+
 ghost use Rattle.std.specs.Prelude.{◌≡◌, min};
 ghost use Rattle.lists.specs.Count.{smallest};
 ghost use Rattle.model.specs.Site.{blocking, spare};

@@ -1,5 +1,7 @@
 // What a plan's call edges and its steps within a site make: the rows of its paths, loops and self-dependences. A plan may be anybody's; of its edges those
 // between nodes 0 to 63 count.
+#![tactic(auto)]
+
 ghost use Rattle.std.specs.Prelude.{◌≡◌, true, ◌↔◌, ℕ};
 ghost use Rattle.model.specs.Graph.{Depends, either};
 ghost use Rattle.model.specs.Plan.{has_edge, site_steps, no_steps};

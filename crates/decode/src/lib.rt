@@ -1,11 +1,13 @@
 // One command of a run at a time, read from bytes. An inner crate: the library's own crates alone call it.
+#![tactic(auto)]
+
 ghost use Rattle.std.specs.Prelude.{◌+◌, ◌*◌, ◌≡◌};
 ghost use Rattle.model.specs.Transcript.{command_kinds};
 ghost use Rattle.decode.specs.Asked.{size_told, request_of, request_at};
 
 // What a record asks for. Tickets have two bytes, the rest one; the node stands first, so that in every case the tickets lie at the same places and the
 // back end keeps them apart.
-#[derive(Drop)]
+#[derive(Clone, Copy)]
 pub enum Request {
     // Node, ticket.
     Start(u8, u16),
@@ -19,7 +21,7 @@ pub enum Request {
 }
 
 // What stands where a command is due.
-#[derive(Drop)]
+#[derive(Clone, Copy)]
 pub enum NextRequest {
     // The request and the offset behind it.
     Whole(Request, usize),

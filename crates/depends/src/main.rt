@@ -1,5 +1,7 @@
 // Reads a plan from standard input and shows it: the first line is the bench program's for that plan, and where the end record was reached there
 // follows a line for each listed node with the nodes that it depends on. The text is `shown`'s.
+#![tactic(auto)]
+
 use ids::{Node, Site};
 
 // The records of the largest plan, and behind them the longest record: so that whatever stands there is seen whole.

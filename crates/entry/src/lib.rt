@@ -1,5 +1,7 @@
 // A net that is handed in, on its way into a run: its rules are tested one after the other, and the arrays hold it where it keeps them all. An inner
 // crate: the library's own crates alone call it.
+#![tactic(auto)]
+
 ghost use Rattle.moves.specs.Held.{arrays};
 ghost use Rattle.entry.specs.Entry.{PlanRules, NumberTested, NumberRules, CallTested, CallRules, SiteTested, SiteRules, FirstTested, FirstRules, KeyTested, KeyRules, Blank, Prepares};
 

@@ -1,5 +1,7 @@
 // What stands in a command's way, inside a run: the number of the first test of its order that fails, or 0. An inner crate: the library's own crates
 // alone call it.
+#![tactic(auto)]
+
 ghost use Rattle.std.specs.Prelude.{List};
 ghost use Rattle.model.specs.Plan.{Record};
 ghost use Rattle.model.specs.Net.{Call};
@@ -8,7 +10,7 @@ ghost use Rattle.faults.specs.Seen.{StartSeen, StartFault, CallSeen, CallFault, 
 use ids::{Node, Ticket};
 
 // The number of the first test of a return or a taking back that fails, or 0, and then the place of the call.
-#[derive(Drop)]
+#[derive(Clone, Copy)]
 pub struct Ending {
     pub fault: u8,
     pub at: usize,

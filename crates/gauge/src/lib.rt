@@ -1,4 +1,6 @@
 // Reading and checking a plan as one C function, and nothing beside it, so that the stack and the instructions of the plan check can be measured.
+#![tactic(auto)]
+
 ghost use Rattle.std.specs.Prelude.{◌≡◌, get_or};
 ghost use Rattle.model.specs.Reading.{read as reading};
 ghost use Rattle.model.specs.PlanValue.{reading_told};

@@ -1,5 +1,7 @@
 // Relations on nodes as a word for each node, that of the nodes to which it leads: what is reached from some nodes, and whether an edge is closed backwards.
 // An inner crate: its callers lend it rows of 64 words.
+#![tactic(auto)]
+
 ghost use Rattle.std.specs.Prelude.{◌≡◌, true, ◌↔◌, length};
 ghost use Rattle.ids.specs.Limits.{nodes};
 ghost use Rattle.graph.specs.Reached.{ReachedFrom, ClosedBack, TwoRows};

@@ -1,44 +1,46 @@
 // The four numbers that the library keeps apart: a ticket, a node number, a site number and a level. Each limit stands once, with the
 // thing that it limits. A value of these types may hold any byte or word; a constructor is an aid that refuses a number out of range.
+#![tactic(auto)]
+
 ghost use Rattle.std.specs.Prelude.{◌≡◌};
 ghost use Rattle.ids.specs.Made.{told_made_site, told_made_node, told_made_level, told_made_ticket, site_made, node_made, level_made, ticket_made};
 
 // "Sites are numbered 0 to 15".
-#[derive(Drop)]
+#[derive(Clone, Copy)]
 pub struct Site(pub u8);
 
 // "Nodes are numbered 0 to 63".
-#[derive(Drop)]
+#[derive(Clone, Copy)]
 pub struct Node(pub u8);
 
 // The paper's annotation: below the threads of its site.
-#[derive(Drop)]
+#[derive(Clone, Copy)]
 pub struct Level(pub u8);
 
 // "Tickets are 1 to 65535; 0 means no ticket".
-#[derive(Drop)]
+#[derive(Clone, Copy)]
 pub struct Ticket(pub u16);
 
 // What a constructor answers.
-#[derive(Drop)]
+#[derive(Clone, Copy)]
 pub enum MadeSite {
     Made(Site),
     Refused,
 }
 
-#[derive(Drop)]
+#[derive(Clone, Copy)]
 pub enum MadeNode {
     Made(Node),
     Refused,
 }
 
-#[derive(Drop)]
+#[derive(Clone, Copy)]
 pub enum MadeLevel {
     Made(Level),
     Refused,
 }
 
-#[derive(Drop)]
+#[derive(Clone, Copy)]
 pub enum MadeTicket {
     Made(Ticket),
     Refused,

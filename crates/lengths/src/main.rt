@@ -1,5 +1,7 @@
 // Writes a plan from standard input into a buffer of each length, from 0 to one more than its file has bytes, and shows each answer and the bytes behind it.
 // Then the same, with two lengths, of plan values that no file has.
+#![tactic(auto)]
+
 use ids::{Node, Site};
 use model::{Plan, ReadAnswer};
 use writing::WriteAnswer;

@@ -1,4 +1,6 @@
 // The call edges of a plan as words: for each node the set of those that it may call. A plan may be anybody's; of its edges those between nodes 0 to 63 count.
+#![tactic(auto)]
+
 ghost use Rattle.std.specs.Prelude.{◌≡◌, ◌&&◌, ◌||◌, eqb, length, min};
 ghost use Rattle.ids.specs.Limits.{nodes, most_edges};
 ghost use Rattle.model.specs.Plan.{has_edge};
@@ -9,7 +11,7 @@ use ids::Node;
 use model::Plan;
 
 // The set of each node.
-#[derive(Drop)]
+#[derive(Clone, Copy)]
 pub struct Rows {
     pub rows: [u64; Node::COUNT],
 }

@@ -1,5 +1,7 @@
 // "The table of open calls is searched by ticket": a lent slice of call records, looked through for a ticket. An inner
 // crate: the library's own crates alone call it.
+#![tactic(auto)]
+
 ghost use Rattle.std.specs.Prelude.{◌≡◌};
 ghost use Rattle.lookup.specs.Lookup.{place_in};
 

@@ -1,4 +1,6 @@
 // The commands inside a run, over the arrays that hold the open calls and the rooms. An inner crate: the library's own crates alone call it.
+#![tactic(auto)]
+
 ghost use Rattle.moves.specs.Held.{arrays, Openable, Opens, Closable, Closes, Servable, Serves};
 
 use ids::{Site, Ticket};

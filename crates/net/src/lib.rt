@@ -1,5 +1,7 @@
 // The net by value: anybody's net may be handed in, and every function answers. A net that breaks a rule is refused with 19 before all else and handed back as it
 // came, and so is the net of a refused command.
+#![tactic(auto)]
+
 ghost use Rattle.std.specs.Prelude.{◌≡◌, []};
 ghost use Rattle.model.specs.Command.{start, call, return, take_back};
 ghost use Rattle.value.specs.View.{broken};

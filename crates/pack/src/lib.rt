@@ -1,4 +1,6 @@
 // The net that is handed back, put together from the arrays of a run. An inner crate: the library's own crates alone call it.
+#![tactic(auto)]
+
 ghost use Rattle.pack.specs.Packed.{Packable, Packs, AnswerTold, Handable, Hands};
 
 use ids::{Level, Site, Ticket};

@@ -1,5 +1,7 @@
 // Runs over texts that are too short for a line, and of each length around it: the input is run over a text of every length from 0 to 70, and then in pieces of
 // a line's room, as a caller with little memory would. Everything that decides anything is `transcript`'s.
+#![tactic(auto)]
+
 use model::ReadAnswer;
 use transcript::Halt;
 use value::Net;

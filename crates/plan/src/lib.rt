@@ -1,4 +1,6 @@
 // Reading a plan: from record to record through the lent bytes, up to the end record, and then the checks on the whole plan.
+#![tactic(auto)]
+
 ghost use Rattle.std.specs.Prelude.{◌≡◌};
 ghost use Rattle.model.specs.Reading.{scanned as scanning, read as reading};
 ghost use Rattle.model.specs.PlanValue.{refusal_number};

@@ -1,4 +1,6 @@
 // What depends on what, for our engineer: "one byte for each ordered pair of nodes, so that our engineer can print it". The checks of a plan do not use it.
+#![tactic(auto)]
+
 ghost use Rattle.std.specs.Prelude.{◌*◌, ◌<◌, ◌≡◌, length};
 ghost use Rattle.ids.specs.Limits.{nodes};
 ghost use Rattle.model.specs.Graph.{Depends};
@@ -13,7 +15,7 @@ use ids::Node;
 use model::Plan;
 
 // A byte for each ordered pair of nodes: that of (n, m) at 64 n + m.
-#[derive(Drop)]
+#[derive(Clone, Copy)]
 pub struct Table {
     pub cells: [u8; Node::COUNT * Node::COUNT],
 }

@@ -1,13 +1,15 @@
 // "The reader goes through the lent bytes from record to record, keeping its place": a reader that holds the bytes of a plan and the offset at which
 // it stands. The borrow checker covers no function over such a struct, so there are few, each proved by hand, and the work is `record`'s, on the slice
 // and the offset. `record_at`, whose parameters are plain, serves every other caller. An inner crate: the library's own crates alone call it.
+#![tactic(auto)]
+
 ghost use Rattle.std.specs.Prelude.{◌≡◌};
 ghost use Rattle.record.specs.Step.{next_in};
 ghost use Rattle.reader.specs.ReaderAt.{reader_at};
 
 use record::NextRecord;
 
-#[derive(Drop)]
+#[derive(Clone, Copy)]
 pub struct Reader<'a> {
     pub bytes: &'a [u8],
     pub at: usize,

@@ -1,5 +1,7 @@
 // One record of a plan at a time: reading it from bytes, checking it against the records before it, storing it in the plan's value, and the checks
 // of the end record. An inner crate: `plan` reads whole plans with it and `audit` checks plan values.
+#![tactic(auto)]
+
 ghost use Rattle.std.specs.Prelude.{◌≡◌, get_or};
 ghost use Rattle.model.specs.Plan.{plan_kinds};
 ghost use Rattle.model.specs.PlanValue.{empty_plan};
@@ -10,7 +12,7 @@ use ids::{Level, Node, Site};
 use model::{Plan, PlanRecord, PlanRefusal};
 
 // What stands where a record is due.
-#[derive(Drop)]
+#[derive(Clone, Copy)]
 pub enum NextRecord {
     // The record and the offset behind it.
     Whole(PlanRecord, usize),
@@ -19,14 +21,14 @@ pub enum NextRecord {
     Unknown,
 }
 
-#[derive(Drop)]
+#[derive(Clone, Copy)]
 pub enum Checked {
     Passed,
     Refused(PlanRefusal),
 }
 
 // How many bytes the body of a kind has.
-#[derive(Drop)]
+#[derive(Clone, Copy)]
 pub enum BodyLength {
     Bytes(usize),
     Unknown,

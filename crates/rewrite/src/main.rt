@@ -1,5 +1,7 @@
 // Reads a plan from standard input and writes its file to standard output: the bytes that it read, through the end record. Of a plan that is refused it writes
 // nothing there, and the bench program's first line to standard error.
+#![tactic(auto)]
+
 use ids::{Node, Site};
 use model::ReadAnswer;
 use writing::WriteAnswer;

@@ -1,6 +1,8 @@
 // How far each level of each site is from full inside a run, T - k - A[k], 255 at or above T: a level is full where it is 0, and its room is the smallest up
 // to it. An admission takes one from its level and those below it, and a return gives it back. What is level k's of a site stands at `base` + k. An
 // inner crate: the library's own crates alone call it.
+#![tactic(auto)]
+
 ghost use Rattle.std.specs.Prelude.{◌≡◌, cond, suc, ◌+◌, min, eqb};
 ghost use Rattle.lists.specs.Count.{first, last, smallest};
 ghost use Rattle.lists.specs.Fill.{Filled, renewed};

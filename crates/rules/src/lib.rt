@@ -1,4 +1,6 @@
 // The net rules, tested over the arrays of a run. An inner crate: the library's own crates alone call it.
+#![tactic(auto)]
+
 ghost use Rattle.rules.specs.Rules.{TicketsTested, TicketsTest, NodesTested, NodesTest, ParentTested, ParentTest, ParentsTested, ParentsTest, SettledTested, SettledTest};
 
 use ids::{Node, Site, Ticket};

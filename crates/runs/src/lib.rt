@@ -1,5 +1,7 @@
 // A run: commands from bytes, one turn after another, until the bytes end or the lines have no more room. An inner crate: the library's own crates
 // alone call it.
+#![tactic(auto)]
+
 ghost use Rattle.std.specs.Prelude.{◌≡◌};
 ghost use Rattle.moves.specs.Held.{arrays};
 ghost use Rattle.turns.specs.Turn.{Answerable};
@@ -8,7 +10,7 @@ ghost use Rattle.runs.specs.Went.{stop_of, ArraysRun};
 use decode::NextRequest;
 
 // Why a run stops.
-#[derive(Drop)]
+#[derive(Clone, Copy)]
 pub enum Stop {
     // Less room is left than a line may take.
     Full,
@@ -21,7 +23,7 @@ pub enum Stop {
 }
 
 // How many calls are open then, the places behind what was read and behind what was written, and how many commands were answered.
-#[derive(Drop)]
+#[derive(Clone, Copy)]
 pub struct Ran {
     pub used: usize,
     pub at: usize,

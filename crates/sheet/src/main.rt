@@ -1,4 +1,6 @@
 // Runs the site book, the check of plan values and the constructors on the level sheet's cases, and writes a line for each.
+#![tactic(auto)]
+
 use audit::check;
 use ids::{Level, MadeLevel, MadeNode, MadeSite, MadeTicket, Node, Site, Ticket};
 use model::{AdmissionAnswer, LevelAnswer, Plan, ReadAnswer, RoomAnswer};

@@ -1,5 +1,7 @@
 // The text of a plan: the bench program's first line, and what depends on what. Each function writes into a lent buffer and answers the place behind what it
 // wrote. An inner crate: the programs call it, and leave room for what is written; `writing` has a plan's records counted here.
+#![tactic(auto)]
+
 ghost use Rattle.std.specs.Prelude.{◌+◌, ◌*◌, ◌≤◌, ◌≡◌, length};
 ghost use Rattle.ids.specs.Limits.{nodes};
 ghost use Rattle.model.specs.PlanValue.{somewhere};

@@ -1,5 +1,7 @@
 // Each command by itself, through the functions of `net` by value: a plan and then commands from standard input, no more than one buffer of it. It writes how
 // many commands were answered and how many of them refused. What one command by value costs is counted on it (`tests/speed`).
+#![tactic(auto)]
+
 ghost use Rattle.std.specs.Prelude.{◌≤◌};
 
 use decode::{NextRequest, Request};
@@ -10,7 +12,7 @@ use value::{AskAnswer, CommandAnswer, Commanded, Net, NetRoom};
 // The bytes of input that are held.
 const MOST: usize = 65536;
 
-#[derive(Drop)]
+#[derive(Clone, Copy)]
 struct Answered {
     commands: u64,
     refused: u64,

@@ -1,5 +1,7 @@
 // The requests inside a run, over the arrays that hold its net: what each answers, and the arrays left holding the net after it. An inner crate: the
 // library's own crates alone call it.
+#![tactic(auto)]
+
 ghost use Rattle.std.specs.Prelude.{◌≡◌, cond, List, suc, ◌*◌};
 ghost use Rattle.ids.specs.Limits.{most_threads};
 ghost use Rattle.lists.specs.Count.{last};
@@ -16,7 +18,7 @@ use ids::{Site, Ticket};
 use text::Printed;
 
 // How many calls are open then, and what is printed.
-#[derive(Drop)]
+#[derive(Clone, Copy)]
 pub struct Done {
     pub used: usize,
     pub what: Printed,

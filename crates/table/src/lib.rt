@@ -1,6 +1,8 @@
 // The table of open calls inside a run: arrays of numbers, dense, in the order of opening, zero past the count. Searches go by blocks of 32 places
 // without an exit, which the back end turns into wide compares, and look closer in the block that hit. An inner crate: the library's own crates alone
 // call it.
+#![tactic(auto)]
+
 ghost use Rattle.std.specs.Prelude.{◌≡◌, ◌+◌, ◌≤◌, length};
 ghost use Rattle.ids.specs.Limits.{most_open};
 ghost use Rattle.lists.specs.Count.{some, first};

@@ -1,4 +1,6 @@
 // The active calls of each site and level counted, and the rooms that they leave. An inner crate: the library's own crates alone call it.
+#![tactic(auto)]
+
 ghost use Rattle.std.specs.Prelude.{◌≡◌, not, ◌*◌};
 ghost use Rattle.lists.specs.Count.{some};
 ghost use Rattle.ids.specs.Limits.{sites, most_threads};

@@ -1,5 +1,7 @@
 // The text inside a run: items and lines written into a lent buffer, each function answering the place behind what it wrote. An inner crate: the
 // library's own crates alone call it, and leave room for what is written.
+#![tactic(auto)]
+
 ghost use Rattle.std.specs.Prelude.{◌+◌, ◌≤◌, ◌<◌, length};
 ghost use Rattle.model.specs.Text.{ascii, decimal, spaced, plan_line, plan_refused_line, done_line, bad_line};
 ghost use Rattle.text.specs.Put.{Put};
@@ -7,7 +9,7 @@ ghost use Rattle.text.specs.Lines.{pair_text, marked_end, answer_end, line_text,
 ghost use Rattle.text.specs.Room.{number_room, long_room, answer_room, line_room, word_room, plan_room, plan_refused_room, done_room, bad_room};
 
 // An answer: a letter, a number, a refusal's number, or `W` and the level in the way.
-#[derive(Drop)]
+#[derive(Clone, Copy)]
 pub enum Printed {
     Letter(u8),
     Number(u16),

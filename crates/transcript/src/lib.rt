@@ -1,5 +1,7 @@
 // A run of command bytes over a net by value: each whole command answered, and its line written as the transcript has it. The rules are tested once a run. A
 // net that breaks a rule is handed back as it came.
+#![tactic(auto)]
+
 ghost use Rattle.std.specs.Prelude.{◌≡◌};
 ghost use Rattle.transcript.specs.Ran.{halt_of, NetRuns};
 
@@ -8,7 +10,7 @@ use runs::Stop;
 use value::Net;
 
 // Why a run stopped.
-#[derive(Drop)]
+#[derive(Clone, Copy)]
 pub enum Halt {
     // The text has less room than a line may take.
     Full,
@@ -23,7 +25,7 @@ pub enum Halt {
 }
 
 // The net behind a run, the places behind what was read and what was written, and how many commands were answered.
-#[derive(Drop)]
+#[derive(Clone, Copy)]
 pub struct NetRan {
     pub net: Net,
     pub at: usize,

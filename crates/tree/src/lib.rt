@@ -1,6 +1,8 @@
 // The tree of counts of one site and the walk down it, for `book`. The tree stands in two arrays, sizes and slacks: the root at place 1, the
 // halves of place n at 2n and 2n + 1, and the leaf of level k at 64 + k. It is built once from the leaves. A slack is stored with 64 added, so
 // that it may fall below 0: at the root it does exactly where the site is not lawful. A slack of 255 is no limit.
+#![tactic(auto)]
+
 ghost use Rattle.std.specs.Prelude.{◌≡◌, true, cond, ◌↔◌, ◌+◌, min, eqb, length};
 ghost use Rattle.ids.specs.Limits.{most_threads};
 ghost use Rattle.model.specs.Site.{A as above};
@@ -13,7 +15,7 @@ use ids::Site;
 use model::Walked;
 
 // Where the walk from the root ended; refused where the numbers are not those of a lawful site.
-#[derive(Drop)]
+#[derive(Clone, Copy)]
 pub enum Descent {
     Ended(Walked),
     Refused,

@@ -1,4 +1,6 @@
 // Runs the functions of `net` on nets that break a rule, on commands that are refused and on plans that no net is made from, and writes a line for each.
+#![tactic(auto)]
+
 use ids::{Level, Node, Site, Ticket};
 use model::Plan;
 use record::Checked;

@@ -1,5 +1,7 @@
 // One turn of a run: a request answered over the arrays that hold the net, and its line written. An inner crate: the library's own crates alone call
 // it.
+#![tactic(auto)]
+
 ghost use Rattle.std.specs.Prelude.{◌+◌, ◌≤◌, length};
 ghost use Rattle.text.specs.Put.{Put};
 ghost use Rattle.text.specs.Room.{line_room};
@@ -12,7 +14,7 @@ use steps::Done;
 use text::Printed;
 
 // How many calls are open then, and the place behind the line.
-#[derive(Drop)]
+#[derive(Clone, Copy)]
 pub struct Turned {
     pub used: usize,
     pub at: usize,

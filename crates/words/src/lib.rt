@@ -1,4 +1,6 @@
 // A set of nodes in one word: node n is in it where bit n is set.
+#![tactic(auto)]
+
 ghost use Rattle.std.specs.Prelude.{◌≡◌};
 ghost use Rattle.words.specs.Words.{member, inserted, least, without_least, difference};
 

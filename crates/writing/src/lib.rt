@@ -1,5 +1,7 @@
 // Writing a plan: its records and the end record go into a lent buffer, and the reader reads them back as this plan. The plan may be anybody's; nothing is
 // written before it has passed its checks and the buffer is long enough.
+#![tactic(auto)]
+
 ghost use Rattle.std.specs.Prelude.{◌+◌, ◌≤◌, ◌≡◌, eqb, length};
 ghost use Rattle.ids.specs.Limits.{sites, nodes, most_edges};
 ghost use Rattle.model.specs.Plan.{edge, bytes_of};
@@ -13,7 +15,7 @@ use model::Plan;
 use record::Checked;
 
 // The length of the file, or why nothing was written.
-#[derive(Drop)]
+#[derive(Clone, Copy)]
 pub enum WriteAnswer {
     Written(usize),
     // 18: no net is made from this plan either.
