@@ -1,7 +1,6 @@
 -- `text::answer` meets its contract: for each kind of answer, the stores and the number are its text and the newline. Assumes nothing.
 use native.Mathlib.Omega.{arith}
 use mathlib.Core.Path.{refl}
-use lib.ListN.{length-set}
 use Rattle.text.specs.Room.{number_room}
 use Rattle.text.proofs.PutLaws.{put_3, put_store, put_as, room_left}
 use Rattle.text.proofs.DigitLaws.{spaced_most}
@@ -9,12 +8,6 @@ use Rattle.text.proofs.LineLaws.{letter_ends, number_ends, refused_ends, waits_e
 use Rattle.text.proofs.answer.Goals as goal
 
 -- A letter
-pub bounds-text-at-in-Letter : goal.bounds-text-at-in-Letter
-bounds-text-at-in-Letter c = simp length-set (omega arith)
-
-pub bounds-text-at-in-Letter-2 : goal.bounds-text-at-in-Letter-2
-bounds-text-at-in-Letter-2 c = simp length-set (omega arith)
-
 pub returns-in-Letter : goal.returns-in-Letter
 returns-in-Letter c = put_as (letter_ends _ c.in-Letter.is) (put_3 _ _ _ _ _ (omega arith))
 

@@ -9,20 +9,13 @@ use Rattle.text.proofs.PutLaws.{put_3, put_then, put_store, put_long, room_left}
 use Rattle.text.proofs.DigitLaws.{spaced_most, spaced_long}
 use Rattle.text.proofs.bad_line.Goals as goal
 
-pub bounds-text-at-2 : goal.bounds-text-at-2
-bounds-text-at-2 c = simp length-set (omega arith)
-
-pub bounds-text-at-3 : goal.bounds-text-at-3
-bounds-text-at-3 c = simp length-set (omega arith)
-
-pub number-first-requires : goal.number-first-requires
-number-first-requires c = simp length-set (omega arith)
-
 pub long_number-second-requires : goal.long_number-second-requires
-long_number-second-requires c = omega (arith, (room_left number_room (long_room + 1) c.number-first.ensures (spaced_most _ (omega arith)) (simp length-set (omega arith))))
+long_number-second-requires c = omega (arith, room_left number_room (long_room + 1) c.number-first.ensures (spaced_most _ (omega arith)) (simp length-set (omega arith)))
 
 pub bounds-text-second : goal.bounds-text-second
-bounds-text-second c = let room = room_left long_room 1 c.long_number-second.ensures (spaced_long _) ((room_left number_room (long_room + 1) c.number-first.ensures (spaced_most _ (omega arith)) (simp length-set (omega arith)))) in
+bounds-text-second c =
+    let first = room_left number_room (long_room + 1) c.number-first.ensures (spaced_most _ (omega arith)) (simp length-set (omega arith)) in
+    let room = room_left long_room 1 c.long_number-second.ensures (spaced_long _) first in
     omega arith
 
 pub returns : goal.returns

@@ -8,20 +8,9 @@ use Rattle.text.proofs.PutLaws.{put_4, put_then, put_store, put_long, room_left}
 use Rattle.text.proofs.DigitLaws.{spaced_long}
 use Rattle.text.proofs.done_line.Goals as goal
 
-pub bounds-text-at-2 : goal.bounds-text-at-2
-bounds-text-at-2 c = simp length-set (omega arith)
-
-pub bounds-text-at-3 : goal.bounds-text-at-3
-bounds-text-at-3 c = simp length-set (omega arith)
-
-pub bounds-text-at-4 : goal.bounds-text-at-4
-bounds-text-at-4 c = simp length-set (omega arith)
-
-pub long_number-first-requires : goal.long_number-first-requires
-long_number-first-requires c = simp length-set (omega arith)
-
 pub bounds-text-first : goal.bounds-text-first
-bounds-text-first c = let room = room_left long_room 1 c.long_number-first.ensures (spaced_long _) (simp length-set (omega arith)) in
+bounds-text-first c =
+    let room = room_left long_room 1 c.long_number-first.ensures (spaced_long _) (simp length-set (omega arith)) in
     omega arith
 
 pub returns : goal.returns

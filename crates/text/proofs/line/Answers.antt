@@ -7,9 +7,6 @@ use Rattle.text.proofs.PutLaws.{put_1, put_then, room_left}
 use Rattle.text.proofs.DigitLaws.{spaced_most}
 use Rattle.text.proofs.line.Goals as goal
 
-pub number-asked-requires : goal.number-asked-requires
-number-asked-requires c = simp length-set (omega arith)
-
 pub answer-requires : goal.answer-requires
 answer-requires c = room_left number_room answer_room c.number-asked.ensures (spaced_most _ (omega arith)) (simp length-set (omega arith))
 

@@ -8,9 +8,6 @@ use Rattle.text.proofs.PutLaws.{put_1, put_then, room_left}
 use Rattle.text.proofs.DigitLaws.{spaced_most}
 use Rattle.text.proofs.line2.Goals as goal
 
-pub number-half-requires : goal.number-half-requires
-number-half-requires c = simp length-set (omega arith)
-
 pub number-asked-requires : goal.number-asked-requires
 number-asked-requires c = room_left number_room number_room c.number-half.ensures (spaced_most _ (omega arith)) (simp length-set (omega arith))
 

@@ -8,14 +8,9 @@ use Rattle.text.proofs.PutLaws.{put_2, put_then, put_store, put_long, room_left}
 use Rattle.text.proofs.DigitLaws.{spaced_most}
 use Rattle.text.proofs.marked.Goals as goal
 
-pub bounds-text-at-2 : goal.bounds-text-at-2
-bounds-text-at-2 c = simp length-set (omega arith)
-
-pub number-told-requires : goal.number-told-requires
-number-told-requires c = simp length-set (omega arith)
-
 pub bounds-text-told : goal.bounds-text-told
-bounds-text-told c = let room = room_left number_room 1 c.number-told.ensures (spaced_most _ (omega arith)) (simp length-set (omega arith)) in
+bounds-text-told c =
+    let room = room_left number_room 1 c.number-told.ensures (spaced_most _ (omega arith)) (simp length-set (omega arith)) in
     omega arith
 
 pub overflow_add-result : goal.overflow_add-result

@@ -6,12 +6,6 @@ use Rattle.text.proofs.DigitLaws.{spaced-one, spaced_two, spaced_three, spaced_f
 use Rattle.text.proofs.number.Goals as goal
 
 -- Five digits
-pub bounds-text-at-then-n-ge10000 : goal.bounds-text-at-then-n-ge10000
-bounds-text-at-then-n-ge10000 c = simp length-set (omega arith)
-
-pub pair-middle-requires : goal.pair-middle-requires
-pair-middle-requires c = simp length-set (omega arith, omega arith)
-
 pub pair-requires : goal.pair-requires
 pair-requires c = (omega arith, room_left 2 2 c.pair-middle.ensures (pair_most _) (simp length-set (omega arith)))
 
@@ -19,33 +13,18 @@ pub returns-then-n-ge10000 : goal.returns-then-n-ge10000
 returns-then-n-ge10000 c = put_as (spaced_five _ (omega arith) (omega arith)) (put_then (put_then (put_2 _ _ _ _ (omega arith)) c.pair-middle.ensures) c.pair.ensures)
 
 -- One digit
-pub bounds-text-at-then-n-lt10 : goal.bounds-text-at-then-n-lt10
-bounds-text-at-then-n-lt10 c = simp length-set (omega arith)
-
 pub returns-then-n-lt10 : goal.returns-then-n-lt10
 returns-then-n-lt10 c = put_as (spaced-one _ (omega arith)) (put_2 _ _ _ _ (omega arith))
 
 -- Two digits
-pub pair-requires-then-n-lt100 : goal.pair-requires-then-n-lt100
-pair-requires-then-n-lt100 c = simp length-set (omega arith, omega arith)
-
 pub returns-then-n-lt100 : goal.returns-then-n-lt100
 returns-then-n-lt100 c = put_as (spaced_two _ (omega arith) (omega arith)) (put_then (put_1 _ _ _ (omega arith)) c.pair-then-n-lt100.ensures)
 
 -- Three digits
-pub bounds-text-at-then-n-lt1000 : goal.bounds-text-at-then-n-lt1000
-bounds-text-at-then-n-lt1000 c = simp length-set (omega arith)
-
-pub pair-requires-then-n-lt1000 : goal.pair-requires-then-n-lt1000
-pair-requires-then-n-lt1000 c = simp length-set (omega arith, omega arith)
-
 pub returns-then-n-lt1000 : goal.returns-then-n-lt1000
 returns-then-n-lt1000 c = put_as (spaced_three _ (omega arith) (omega arith)) (put_then (put_2 _ _ _ _ (omega arith)) c.pair-then-n-lt1000.ensures)
 
 -- Four digits
-pub pair-middle-requires-2 : goal.pair-middle-requires-2
-pair-middle-requires-2 c = simp length-set (omega arith, omega arith)
-
 pub pair-requires-2 : goal.pair-requires-2
 pair-requires-2 c = (omega arith, room_left 2 2 c.pair-middle-2.ensures (pair_most _) (simp length-set (omega arith)))
 

@@ -2,6 +2,7 @@
 use Prim.Native.Nat.{◌+◌, ◌*◌}
 use native.Mathlib.Omega.{arith}
 use mathlib.Core.Path.{refl}
+use lib.ListN.{length-set}
 use Rattle.model.specs.Text.{plan_line}
 use Rattle.text.specs.Room.{long_room, word_room}
 use Rattle.text.proofs.PutLaws.{put_then, put_store, put_long, room_left}
@@ -47,12 +48,4 @@ returns c =
     put_store _ _ _ refl refl (bounds-text-fourth c) (put_then (put_then two c.long_number-third.ensures) c.long_number-fourth.ensures)
 
 pub overflow_add-result : goal.overflow_add-result
-overflow_add-result c = omega (
-  arith,
-  bounds-text-fourth c,
-  put_long c.long_number-fourth.ensures,
-  put_long c.long_number-third.ensures,
-  put_long c.long_number-second.ensures,
-  put_long c.long_number-first.ensures,
-  put_long c.plan-word.ensures,
-)
+overflow_add-result c = omega (arith, bounds-text-fourth c, simp length-set at (put_long (returns c)))

@@ -10,22 +10,27 @@ use Rattle.text.proofs.DigitLaws.{spaced_most, spaced_long}
 use Rattle.text.proofs.plan_refused_line.Goals as goal
 
 pub bounds-text-word : goal.bounds-text-word
-bounds-text-word c = omega (arith, (room_left word_room (2 + number_room + long_room + 1) c.plan-word.ensures (omega arith) (omega arith)))
+bounds-text-word c = omega (arith, room_left word_room (2 + number_room + long_room + 1) c.plan-word.ensures (omega arith) (omega arith))
 
 pub overflow_add-text : goal.overflow_add-text
-overflow_add-text c = omega (arith, (room_left word_room (2 + number_room + long_room + 1) c.plan-word.ensures (omega arith) (omega arith)), put_long c.plan-word.ensures)
+overflow_add-text c = omega (arith, room_left word_room (2 + number_room + long_room + 1) c.plan-word.ensures (omega arith) (omega arith), put_long c.plan-word.ensures)
 
 pub bounds-text-word-2 : goal.bounds-text-word-2
-bounds-text-word-2 c = simp length-set (omega (arith, (room_left word_room (2 + number_room + long_room + 1) c.plan-word.ensures (omega arith) (omega arith))))
+bounds-text-word-2 c = simp length-set (omega (arith, room_left word_room (2 + number_room + long_room + 1) c.plan-word.ensures (omega arith) (omega arith)))
 
 pub number-first-requires : goal.number-first-requires
-number-first-requires c = simp length-set (omega (arith, (room_left word_room (2 + number_room + long_room + 1) c.plan-word.ensures (omega arith) (omega arith))))
+number-first-requires c = simp length-set (omega (arith, room_left word_room (2 + number_room + long_room + 1) c.plan-word.ensures (omega arith) (omega arith)))
 
 pub long_number-second-requires : goal.long_number-second-requires
-long_number-second-requires c = omega (arith, (room_left number_room (long_room + 1) c.number-first.ensures (spaced_most _ (omega arith)) (simp length-set (omega (arith, room_left word_room (2 + number_room + long_room + 1) c.plan-word.ensures (omega arith) (omega arith))))))
+long_number-second-requires c =
+    let word = room_left word_room (2 + number_room + long_room + 1) c.plan-word.ensures (omega arith) (omega arith) in
+    omega (arith, room_left number_room (long_room + 1) c.number-first.ensures (spaced_most _ (omega arith)) (simp length-set (omega (arith, word))))
 
 pub bounds-text-second : goal.bounds-text-second
-bounds-text-second c = let room = room_left long_room 1 c.long_number-second.ensures (spaced_long _) ((room_left number_room (long_room + 1) c.number-first.ensures (spaced_most _ (omega arith)) (simp length-set (omega (arith, room_left word_room (2 + number_room + long_room + 1) c.plan-word.ensures (omega arith) (omega arith)))))) in
+bounds-text-second c =
+    let word = room_left word_room (2 + number_room + long_room + 1) c.plan-word.ensures (omega arith) (omega arith) in
+    let first = room_left number_room (long_room + 1) c.number-first.ensures (spaced_most _ (omega arith)) (simp length-set (omega (arith, word))) in
+    let room = room_left long_room 1 c.long_number-second.ensures (spaced_long _) first in
     omega arith
 
 pub returns : goal.returns
