@@ -1,4 +1,4 @@
--- `tree::countable` meets its contract: each test is a part of `Counted`, and where all hold the whole is. Assumes nothing.
+-- `tree::countable` meets its contract: each test is a part of `TreeCounts`, and where all hold the whole is. Assumes nothing.
 use native.Mathlib.Omega.{arith}
 use borrow.Author.Tests.{leb-true, le-leb}
 use Rattle.model.proofs.SiteLaws.{A_end}
