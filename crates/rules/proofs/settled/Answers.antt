@@ -37,5 +37,14 @@ pub returns-then-waiter-ne-OPEN : goal.returns-then-waiter-ne-OPEN
 returns-then-waiter-ne-OPEN c = λ rs cs ok.
     somebody-there ok c.loop-site.site c.loop-site-test.true _ c.limit-limit.ensures _ c.waiter.ensures c.if-waiter-ne-OPEN.true
 
+pub loop-site-preserved : goal.loop-site-preserved
+loop-site-preserved c = let s = c.loop-site.site in
+    let inside = c.loop-site-test.true in (
+      omega (arith, inside),
+      λ rs cs ok.
+          asleep_more ok s inside (c.loop-site.invariant.1 rs cs ok)
+          (nobody-there ok s inside _ c.limit-limit.ensures _ c.waiter.ensures c.if-waiter-ne-OPEN.false),
+    )
+
 pub returns : goal.returns
 returns c = λ rs cs ok. all_asleep ok c.loop-site.site c.loop-site-test.false (c.loop-site.invariant.1 rs cs ok)
