@@ -7,9 +7,6 @@ use Rattle.pack.proofs.packed.Goals as goal
 pub count-requires : goal.count-requires
 count-requires c = ((_, _, counting (search rules) c.requires.1), zeros_fresh)
 
-pub join-table-requires : goal.join-table-requires
-join-table-requires c = let ok = c.requires.1 in (_, _, ok.joining)
-
 pub returns : goal.returns
 returns c = λ cs ok.
     packed_is (search rules) ok _ (c.count.ensures _ cs (counting (search rules) ok))
