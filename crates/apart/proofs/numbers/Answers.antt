@@ -8,7 +8,8 @@ pub loop-i-init : goal.loop-i-init
 loop-i-init c = (c.requires.start, omega arith)
 
 pub loop-i-preserved : goal.loop-i-preserved
-loop-i-preserved c = (holding_more _ c.loop-i.i _ (omega (arith, c.loop-i-test.true, c.requires.few)) refl c.loop-i.invariant.0, omega (arith, c.loop-i-test.true))
+loop-i-preserved c =
+    (holding_more _ c.loop-i.i _ (omega (arith, c.loop-i-test.true, c.requires.few)) refl c.loop-i.invariant.0, omega (arith, c.loop-i-test.true))
 
 pub returns : goal.returns
 returns c = holding_all (omega (arith, c.loop-i.invariant.1, c.loop-i-test.false)) c.loop-i.invariant.0
