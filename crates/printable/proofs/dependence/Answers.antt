@@ -1,6 +1,6 @@
 -- `printable::dependence` meets its contract. The loop's invariant: the rows of the nodes below n are written; they tell what the plan's rows say.
 -- Assumes nothing.
-use Prim.Native.Nat.{ℕ, ◌-◌}
+use Prim.Native.Nat.{ℕ}
 use native.Mathlib.Omega.{arith}
 use mathlib.Core.Path.{◌≡◌, sym, subst}
 use lib.ListN.{get_or}

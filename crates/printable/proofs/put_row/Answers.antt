@@ -1,5 +1,4 @@
 -- `printable::put_row` meets its contract. The loop's invariant: the places of the row below m are written. Assumes nothing.
-use Prim.Native.Nat.{◌-◌}
 use native.Mathlib.Omega.{arith}
 use mathlib.Core.Path.{◌≡◌, subst}
 use Rattle.ids.specs.Limits.{nodes}

@@ -1,0 +1,9 @@
+-- `net::finish` meets its contract: it is the command of its request. Assumes nothing.
+use mathlib.Core.Path.{refl}
+use Rattle.net.proofs.finish.Goals as goal
+
+pub command-requires : goal.command-requires
+command-requires c = (_, refl)
+
+pub returns : goal.returns
+returns c = c.command.ensures _ refl
