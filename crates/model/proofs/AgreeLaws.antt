@@ -13,7 +13,7 @@ use Rattle.model.specs.Answers.{site_refusal, level_refusal, admission_answer, r
 use Rattle.model.specs.Plan.{site, threads, six}
 use Rattle.model.specs.Net.{Core, has_node, site_of, level_of, limit_at}
 use Rattle.model.specs.NetRules.{own_book, Keeps}
-use Rattle.model.specs.Command.{Command, start, call, active, waiting, told, fault, step, told_roomed, room_at}
+use Rattle.model.specs.Command.{Command, start, call, return, take_back, active, waiting, told, fault, step, told_roomed, room_at}
 use Rattle.model.specs.Demands.{OpensCall, by_start, by_call}
 use Rattle.model.proofs.SiteLaws.{not_refused}
 use Rattle.model.proofs.RecordLaws.{passes_ok, threads-listed, listed-threads}
@@ -42,6 +42,8 @@ module _ (net : Core) where
       → has_node net.plan node ≡ true
   opened-known (start t n) parent ticket node by_start e = (start_fits net ticket node e).listed_node
   opened-known (call p t n) parent ticket node by_call e = (call_fits net parent ticket node e).listed_node
+  opened-known (return _) parent ticket node opens e = elim opens [ ]
+  opened-known (take_back _) parent ticket node opens e = elim opens [ ]
 
   module _ (keeps : Keeps net) where
     -- a site with threads is one that the site book takes

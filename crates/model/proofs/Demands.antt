@@ -43,6 +43,8 @@ opens_done : (net : Core) (command : Command) (parent ticket node : ℕ) → Ope
     → done net command ≡ opening net.plan net.calls parent ticket node
 opens_done net (start t n) parent ticket node by_start = refl
 opens_done net (call p t n) parent ticket node by_call = refl
+opens_done net (return _) parent ticket node opens = elim opens [ ]
+opens_done net (take_back _) parent ticket node opens = elim opens [ ]
 
 opens_step : (net : Core) (command : Command) (parent ticket node : ℕ) → OpensCall command parent ticket node → fault net command ≡ 0
     → step net command ≡ opening net.plan net.calls parent ticket node
