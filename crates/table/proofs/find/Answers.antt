@@ -1,0 +1,25 @@
+-- `table::find` meets its contract. The loop's invariant: the number stands nowhere below `base`, which is a whole number of blocks. Assumes nothing.
+use Prim.Native.Nat.{◌-◌}
+use native.Mathlib.Omega.{arith}
+use mathlib.Core.Path.{sym, ◌∙◌}
+use Rattle.ids.specs.Limits.{most_open}
+use Rattle.lists.proofs.BlockLaws.{block_passed, block_here}
+use Rattle.table.specs.Places.{block}
+use Rattle.table.proofs.SearchLaws.{holds_quiet, none_found}
+use Rattle.table.proofs.find.Goals as goal
+
+pub loop-base-init : goal.loop-base-init
+loop-base-init c = (omega arith, omega arith)
+
+pub returns-then-hit : goal.returns-then-hit
+returns-then-hit c = c.look.ensures
+    ∙ block_here most_open _ c.loop-base.base block (omega arith) c.loop-base.invariant.0 (sym c.hit.ensures ∙ c.if-hit.true)
+
+pub loop-base-preserved : goal.loop-base-preserved
+loop-base-preserved c = (
+  block_passed most_open _ c.loop-base.base block (omega arith) c.loop-base.invariant.0 (sym c.hit.ensures ∙ c.if-hit.false),
+  omega arith,
+)
+
+pub returns : goal.returns
+returns c = none_found _ c.args.used c.loop-base.base (holds_quiet c.requires) (omega arith) c.loop-base.invariant.0
