@@ -59,10 +59,8 @@ fn try_lengths(rt: &HostRuntime, plan: Plan, file: usize) {
     if MOST <= file {
         return;
     }
-    let mut length = 0;
-    while length <= file + 1 {
+    for length in 0..file + 2 {
         try_length(rt, plan, length, file + 1);
-        length += 1;
     }
 }
 

@@ -19,15 +19,13 @@ fn say_item(rt: &HostRuntime, word: &[u8], number: u64) {
 // The count of each level where calls of these levels are active.
 fn counts_of(active: &[u8]) -> [u8; Site::THREADS] {
     let mut counts = [0u8; Site::THREADS];
-    let mut i = 0;
-    while i < active.len() {
-        let level = active[i] as usize;
+    for active_level in active {
+        let level = *active_level as usize;
         if level < Site::THREADS {
             if counts[level] < 255 {
                 counts[level] += 1;
             }
         }
-        i += 1;
     }
     counts
 }
@@ -36,10 +34,8 @@ fn counts_of(active: &[u8]) -> [u8; Site::THREADS] {
 fn say_site(rt: &HostRuntime, threads: u8, active: &[u8]) {
     say_item(rt, b"threads ", threads as u64);
     say(rt, b" active");
-    let mut i = 0;
-    while i < active.len() {
-        say_item(rt, b" ", active[i] as u64);
-        i += 1;
+    for level in active {
+        say_item(rt, b" ", *level as u64);
     }
     say(rt, b": ");
 }

@@ -47,12 +47,10 @@ fn same_bytes<'a>(ones: &'a [u8], others: &'a [u8]) -> bool {
     if ones.len() != others.len() {
         return false;
     }
-    let mut i = 0;
-    while i < ones.len() {
+    for i in 0..ones.len() {
         if ones[i] != others[i] {
             return false;
         }
-        i += 1;
     }
     true
 }
@@ -73,12 +71,10 @@ fn same_call(one: Call, other: Call) -> bool {
 fn same_calls(one: Net, other: Net) -> bool {
     let ones = one.calls;
     let others = other.calls;
-    let mut i = 0;
-    while i < Ticket::OPEN {
+    for i in 0..Ticket::OPEN {
         if !same_call(ones[i], others[i]) {
             return false;
         }
-        i += 1;
     }
     true
 }
@@ -351,10 +347,8 @@ fn too_long(plan: Plan) -> Net {
 fn crowd(used: usize) -> Net {
     let mut net = net::make(small_plan()).net;
     let mut calls = net.calls;
-    let mut i = 0;
-    while i < Ticket::OPEN {
+    for i in 0..Ticket::OPEN {
         calls[i] = opened(i as u16 + 1, 0, 1, true);
-        i += 1;
     }
     net.calls = calls;
     net.used = used;
@@ -516,10 +510,8 @@ fn questions(rt: &HostRuntime) {
 // The sound net with waiting calls at node 1 up to 256.
 fn full_net() -> Net {
     let mut net = sound_net();
-    let mut ticket = 5;
-    while ticket <= 256 {
+    for ticket in 5..257 {
         net = net::start(net, Ticket(ticket), Node(1)).net;
-        ticket += 1;
     }
     net
 }
