@@ -99,8 +99,8 @@ pub fn room(threads: u8, counts: &[u8], wanted: Level) -> RoomAnswer
     RoomAnswer::Room(least_spare(threads, counts, wanted.0))
 }
 
-// The level answer for the switch's C firmware, which `book_c` exports: the highest admissible level plus 1, 0 for none, or 255 as a refusal. The thread
-// count is a word, so that no count is cut to a byte on the way in.
+// The level answer for the switch's C firmware: the highest admissible level plus 1, 0 for none, or 255 as a refusal. The thread count is a word,
+// so that no count is cut to a byte on the way in.
 pub fn admission_level(threads: u32, counts: &[u8]) -> u8
     ensures { result ≡ firmware threads counts.now }
 {
