@@ -1,7 +1,8 @@
 // Reading as the programs do it, where a read that fails counts as the end of the input.
 #![tactic(auto)]
 
-ghost use Rattle.std.specs.Prelude.{◌≡◌, ◌≤◌, length};
+ghost use Rattle.std.specs.Prelude.{◌≡◌, ◌≤◌, length, take};
+ghost use Rattle.std.specs.Io.KnownBytes.{Consumes};
 
 use std::io::Read;
 
@@ -9,6 +10,7 @@ use std::io::Read;
 pub fn read_some<R: Read>(input: &mut R, bytes: &mut [u8]) -> usize
     ensures bound { result ≤ length bytes.new }
     ensures len_unchanged { length bytes.new ≡ length bytes.old }
+    ensures bytes { Consumes (R.remaining input.old) (R.remaining input.new) (take result bytes.new) }
 {
     match input.read(bytes) {
         Ok(got) => got,
@@ -20,6 +22,7 @@ pub fn read_some<R: Read>(input: &mut R, bytes: &mut [u8]) -> usize
 pub fn read_full<R: Read>(input: &mut R, bytes: &mut [u8]) -> usize
     ensures bound { result ≤ length bytes.new }
     ensures len_unchanged { length bytes.new ≡ length bytes.old }
+    ensures bytes { Consumes (R.remaining input.old) (R.remaining input.new) (take result bytes.new) }
 {
     let most = bytes.len();
     let mut done = 0;
