@@ -1,0 +1,22 @@
+-- `record::next_record` meets its contract: at each return the kind byte and the bytes left behind it are those of one case of `next`.
+-- Assumes nothing.
+use mathlib.Core.Path.{sym, ap, ◌∙◌}
+use Rattle.record.specs.Step.{body_told}
+use Rattle.record.proofs.NextLaws.{lacks_kind, strange, short, complete}
+use Rattle.record.proofs.next_record.Goals as goal
+
+pub returns-then-bytes-at : goal.returns-then-bytes-at
+returns-then-bytes-at c = lacks_kind c.args.bytes.now c.args.at c.if-bytes-at.true
+
+pub returns-in_default : goal.returns-in_default
+returns-in_default c = strange c.args.bytes.now c.args.at c.if-bytes-at.false (sym c.body_length.ensures ∙ ap body_told c.in_default.is)
+
+pub returns-then-bytes-at-2 : goal.returns-then-bytes-at-2
+returns-then-bytes-at-2 c = short c.args.bytes.now c.args.at c.if-bytes-at.false c.in-Bytes.size
+    (sym c.body_length.ensures ∙ ap body_told c.in-Bytes.is)
+    c.if-bytes-at-2.true
+
+pub returns : goal.returns
+returns c = complete c.args.bytes.now c.args.at c.if-bytes-at.false c.in-Bytes.size
+    (sym c.body_length.ensures ∙ ap body_told c.in-Bytes.is)
+    c.if-bytes-at-2.false c.record_in.result c.record_in.ensures
