@@ -1,0 +1,13 @@
+-- `audit::edges_pass` meets its contract. The loop's invariant: the edges below the loop's place fit. Assumes nothing.
+use Prim.Native.Nat.{◌-◌, ◌≤◌}
+use mathlib.Core.Path.{◌≡◌}
+use mathlib.Core.Bool.{true}
+use Rattle.lists.specs.Count.{every}
+use Rattle.audit.specs.Fits.{edge_fits}
+use Rattle.audit.proofs.edges_pass.Given as goal
+
+abbrev pub invariant-loop-i : goal.invariant-loop-i
+invariant-loop-i l = (every l.i (edge_fits l.places l.callers l.callees) ≡ true) × (l.i ≤ l.edges)
+
+abbrev pub decreases-loop-i : goal.decreases-loop-i
+decreases-loop-i l = l.edges - l.i
