@@ -1,3 +1,2 @@
 pub mod SearchLaws
 pub mod FoundLaws
-pub mod Rules

@@ -1,6 +1,6 @@
 // "The reader goes through the lent bytes from record to record, keeping its place": a reader that holds the bytes of a plan and the offset at which
-// it stands. The borrow checker covers no function over such a struct, so there are few, each proved by hand, and the work is `record`'s, on the slice
-// and the offset. `record_at`, whose parameters are plain, serves every other caller. An inner crate: the library's own crates alone call it.
+// it stands. Its functions are few, and the work is `record`'s, on the slice and the offset. `record_at`, whose parameters are plain, serves every other
+// caller. An inner crate: the library's own crates alone call it.
 #![tactic(auto)]
 
 ghost use Rattle.std.specs.Prelude.{◌≡◌};

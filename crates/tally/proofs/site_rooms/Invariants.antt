@@ -1,0 +1,15 @@
+-- `tally::site_rooms` meets its contract: whatever the counts, the levels that the loop has passed are lawful and their rooms are written. Assumes nothing.
+use Prim.Native.Nat.{ℕ, ◌+◌, ◌≤◌}
+use mathlib.Core.Path.{◌≡◌}
+use mathlib.Core.List.{List}
+use lib.ListN.{length}
+use Rattle.tally.specs.Tally.{SiteCounted}
+use Rattle.tally.proofs.SiteLaws.{DoneFrom}
+use Rattle.tally.proofs.site_rooms.Given as goal
+
+abbrev pub invariant-loop-k : goal.invariant-loop-k
+invariant-loop-k l = (l.above + l.k ≤ l.most) × (length l.rooms ≡ length l.initial.rooms)
+    × ((a : List ℕ) → SiteCounted l.counts l.base l.most a → DoneFrom l.most a l.base l.k l.above l.initial.rooms l.rooms)
+
+abbrev pub decreases-loop-k : goal.decreases-loop-k
+decreases-loop-k l = l.k
