@@ -9,9 +9,6 @@ use Rattle.book.proofs.blocking.Goals as goal
 pub loop-k-init : goal.loop-k-init
 loop-k-init c = (omega arith, counted_from c.requires _ c.calls_from-active.ensures, refl)
 
-pub overflow_sub-threads : goal.overflow_sub-threads
-overflow_sub-threads c = omega (arith, c.loop-k.invariant.0, c.requires.below)
-
 pub returns-then-active-threads : goal.returns-then-active-threads
 returns-then-active-threads c = found-full c.requires _ _ c.loop-k.invariant.1 c.loop-k.invariant.2 c.if-active-threads.true
 

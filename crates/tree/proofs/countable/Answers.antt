@@ -1,25 +1,11 @@
--- `tree::countable` meets its contract: each test is a part of `Counted`, and where all hold the whole is. Assumes nothing.
+-- `tree::countable` meets its contract: each test is a part of `TreeCounts`, and where all hold the whole is. Assumes nothing.
 use native.Mathlib.Omega.{arith}
 use borrow.Author.Tests.{leb-true, le-leb}
-use Rattle.lists.proofs.CountLaws.{never_both}
 use Rattle.model.proofs.SiteLaws.{A_end}
-use mathlib.Core.Path.{◌≡◌, refl}
+use mathlib.Core.Path.{◌≡◌}
 use Rattle.ids.specs.Limits.{most_threads}
 use Rattle.model.specs.Site.{A}
 use Rattle.tree.proofs.countable.Goals as goal
-
-pub returns-then-threads-eq0 : goal.returns-then-threads-eq0
-returns-then-threads-eq0 c = (λ e. absurd (never_both e refl), λ k. absurd (omega arith))
-
-pub returns-then-threads-gt-THREADS : goal.returns-then-threads-gt-THREADS
-returns-then-threads-gt-THREADS c = (λ e. absurd (never_both e refl), λ k. absurd (omega arith))
-
-pub returns-then-counts-ne-THREADS : goal.returns-then-counts-ne-THREADS
-returns-then-counts-ne-THREADS c = (λ e. absurd (never_both e refl), λ k. absurd (omega arith))
-
-pub returns-then-calls_in-ne0 : goal.returns-then-calls_in-ne0
-returns-then-calls_in-ne0 c = let a = c.args.counts.now in
-    (λ e. absurd (never_both e refl), λ k. absurd (c.if-calls_in-ne0.true (omega (arith, k.within, c.calls_in.ensures))))
 
 pub returns : goal.returns
 returns c = let T = c.args.threads in

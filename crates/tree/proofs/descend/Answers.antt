@@ -1,6 +1,5 @@
 -- `tree::descend` meets its contract: where no tree can be built the site is refused, and once it is built the root's slack says whether the
 -- site is lawful and where the walk ends. Assumes nothing.
-use native.Mathlib.Omega.{arith}
 use mathlib.Core.Path.{ap, ◌∙◌}
 use Rattle.lists.proofs.CountLaws.{never_both}
 use Rattle.tree.specs.declared.Descent.{Descent}
@@ -12,9 +11,6 @@ returns-then-not-countable c = uncounted_refused _ _ (λ k. never_both (c.counta
 
 pub returns-then-root-lt-NO_SLACK : goal.returns-then-root-lt-NO_SLACK
 returns-then-root-lt-NO_SLACK c = root_refuses _ _ (c.countable.ensures.0 c.if-not-countable.false) _ _ c.build.ensures c.if-root-lt-NO_SLACK.true
-
-pub overflow_cast-result : goal.overflow_cast-result
-overflow_cast-result c = omega (arith, (c.countable.ensures.0 c.if-not-countable.false).most)
 
 pub returns-then-root-gt-NO_SLACK : goal.returns-then-root-gt-NO_SLACK
 returns-then-root-gt-NO_SLACK c = root_stays _ _ (c.countable.ensures.0 c.if-not-countable.false) _ _ c.build.ensures c.if-root-lt-NO_SLACK.false c.if-root-gt-NO_SLACK.true

@@ -5,12 +5,9 @@ use native.Mathlib.Omega.{arith}
 use mathlib.Core.Path.{◌≡◌, ap}
 use lib.ListN.{get_or}
 use Rattle.ids.specs.Limits.{most_threads}
-use Rattle.lists.proofs.FillLaws.{filled_none, filled_more, filled_to}
+use Rattle.lists.proofs.FillLaws.{filled_more}
 use Rattle.tree.proofs.StoredLaws.{count_most}
 use Rattle.tree.proofs.leaves.Goals as goal
-
-pub loop-k-init : goal.loop-k-init
-loop-k-init c = record { below = omega arith; left_is = omega arith; sized = filled_none _ _ _; slacked = filled_none _ _ _ }
 
 pub overflow_sub-slacks : goal.overflow_sub-slacks
 overflow_sub-slacks c = omega (arith, count_most c.args.threads c.args.counts.now c.requires.0 c.loop-k.k)
@@ -28,6 +25,3 @@ loop-k-preserved c = let a = c.args.counts.now in
       sized = filled_more _ most_threads (most_threads + k) _ _ _ _ next (omega arith) (omega arith) same set.sized;
       slacked = filled_more _ most_threads (most_threads + k) _ _ _ _ next (omega arith) (omega arith) (omega arith) set.slacked;
     }
-
-pub returns : goal.returns
-returns c = let set = c.loop-k.invariant in record { filled = filled_to (omega arith) set.sized; filled_2 = filled_to (omega arith) set.slacked }

@@ -1,0 +1,23 @@
+-- `runs::run` meets its contract. The loop's invariant: the run went some commands far, the arrays hold the net behind them and the text their lines. The
+-- measure is the bytes left. Assumes nothing.
+use Prim.Native.Nat.{◌+◌, ◌-◌, ◌≤◌}
+use mathlib.Core.Path.{refl, sym, ◌∙◌}
+use native.Mathlib.Omega.{arith}
+use lib.ListN.{length}
+use Rattle.text.specs.Room.{line_room}
+use Rattle.text.proofs.PutLaws.{put_long}
+use Rattle.runs.specs.Went.{full}
+use Rattle.runs.proofs.WentLaws.{begins, goes_on, behind_inside, count_inside, no_whole}
+use Rattle.runs.proofs.run.Goals as goal
+
+pub loop-text-init : goal.loop-text-init
+loop-text-init c = λ first run. begins run
+
+pub overflow_sub-text : goal.overflow_sub-text
+overflow_sub-text c = omega (arith, ((let ok = c.requires in c.loop-text.invariant ok.0 ok.1)).written.inside)
+
+pub returns-then-text-to-lt-LINE : goal.returns-then-text-to-lt-LINE
+returns-then-text-to-lt-LINE c = λ first run. (c.loop-text.invariant first run, full (omega arith) refl)
+
+pub turn-turned-requires : goal.turn-turned-requires
+turn-turned-requires c = ((((let ok = c.requires in c.loop-text.invariant ok.0 ok.1)).net, ((let ok = c.requires in c.loop-text.invariant ok.0 ok.1)).runs_on), omega (arith, ((let ok = c.requires in c.loop-text.invariant ok.0 ok.1)).written.inside))
