@@ -12,11 +12,11 @@ use lib.ListN.{length}
 use lib.Dec.{eqb}
 use borrow.Author.Tests.{eqb-true, eqb-false, ltb-true, not-true, eq-eqb}
 use Rattle.ids.specs.Limits.{no_ticket, most_open}
-use Rattle.lists.specs.Pick.{count, found}
+use Rattle.lists.specs.Pick.{count}
 use Rattle.lists.proofs.CountLaws.{true_or_false, never_both, and_both}
 use Rattle.model.specs.Plan.{Record, threads, has_edge, six, passes}
 use Rattle.model.specs.Net.{Call, Core, empty_net, site_of, lookup, is_open, is_active, node_of, has_child, counts, opened, closed, woken}
-use Rattle.model.specs.Command.{Command, start, call, return, take_back, refused, active, start_tests, call_tests, return_tests, back_tests, fault, Outcome}
+use Rattle.model.specs.Command.{Command, start, call, return, take_back, refused, start_tests, call_tests, return_tests, back_tests, fault, Outcome}
 use Rattle.model.specs.Command.{opening, serving, withdrawing, done, decided, step, run}
 use Rattle.model.specs.NetRules.{Keeps, parent_stands}
 use Rattle.model.specs.Steady.{Firm, Newcomer, Ending, Withdrawn}

@@ -22,7 +22,7 @@ use Rattle.rooms.specs.Rooms.{no_room, Limited}
 use Rattle.table.specs.Places.{between, Table}
 use Rattle.moves.proofs.RoomLaws.{limited, rooms_limit}
 use Rattle.moves.proofs.TableLaws.{tells_table}
-use Rattle.moves.proofs.WakeLaws.{limit_small, waiter_is}
+use Rattle.moves.proofs.WakeLaws.{waiter_is}
 use Rattle.rules.specs.Rules.{SettledSeen}
 
 -- nobody could be woken at the sites below a number
@@ -64,9 +64,6 @@ module _ {rs : List Record} {cs : List Call} {keys rooms : List ℕ} {used : ℕ
           limit_is
           ∙ ap (λ (T : ℕ). first T (no_room rooms (most_threads * s))) most_is
           ∙ rooms_limit rs (counts rs cs) rooms ok.of_rooms s inside (threads_most rs ok.firm.pass s) (ok.firm.law s)
-
-      pub limit_most : limit ≤ most_threads
-      limit_most = omega (arith, its-limit, limit_small rs cs ok.firm s)
 
       module _ (at : ℕ) (at_is : at ≡ first most_open (between keys (most_threads * s) (most_threads * s + limit))) where
         waiter-at : at ≡ cond (any (may_wake rs cs s) cs) (first_place (may_wake rs cs s) cs) most_open

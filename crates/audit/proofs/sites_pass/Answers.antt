@@ -1,5 +1,4 @@
 -- `audit::sites_pass` meets its contract. The loop's invariant: the sites below the loop's fit. Assumes nothing.
-use Prim.Native.Nat.{◌-◌}
 use native.Mathlib.Omega.{arith}
 use mathlib.Core.Path.{refl}
 use borrow.Author.Tests.{lt-leb, le-leb}

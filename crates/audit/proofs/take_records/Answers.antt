@@ -1,6 +1,5 @@
 -- `audit::take_records` meets its contract. The loop's invariant: the first i edges are taken up behind the records of the sites and nodes.
 -- Assumes nothing.
-use Prim.Native.Nat.{◌-◌}
 use native.Mathlib.Omega.{arith}
 use Rattle.audit.proofs.TakenLaws.{edges_start, edge_more, edges-all}
 use Rattle.audit.proofs.take_records.Goals as goal

@@ -8,7 +8,9 @@ use Rattle.rules.proofs.CallLaws.{PassTo}
 use Rattle.rules.proofs.nodes_known.Given as goal
 
 abbrev pub invariant-loop-i : goal.invariant-loop-i
-invariant-loop-i l = (l.i ≤ l.used) × ((rs : List Record) (cs : List Call) → NodesSeen rs cs l.nodes l.used l.places → PassTo (λ c. has_node rs c.node) cs l.i)
+invariant-loop-i l =
+    (l.i ≤ l.used)
+    × ((rs : List Record) (cs : List Call) → NodesSeen rs cs l.nodes l.used l.places → PassTo (λ c. has_node rs c.node) cs l.i)
 
 abbrev pub decreases-loop-i : goal.decreases-loop-i
 decreases-loop-i l = l.used - l.i

@@ -13,10 +13,14 @@ pub returns-then-at-eq-OPEN : goal.returns-then-at-eq-OPEN
 returns-then-at-eq-OPEN c = λ rs cs ok. parent_lacks ok c.if-parent-eq-NONE.false _ c.find-at.ensures c.if-at-eq-OPEN.true
 
 pub offset_bounds-keys-at : goal.offset_bounds-keys-at
-offset_bounds-keys-at c = omega (arith, ((parent_there c.requires.2 c.if-parent-eq-NONE.false c.find-at.result c.find-at.ensures c.if-at-eq-OPEN.false)).at_inside)
+offset_bounds-keys-at c =
+    let found = parent_there c.requires.2 c.if-parent-eq-NONE.false c.find-at.result c.find-at.ensures c.if-at-eq-OPEN.false in
+    omega (arith, found.at_inside)
 
 pub bounds-keys-at : goal.bounds-keys-at
-bounds-keys-at c = omega (arith, ((parent_there c.requires.2 c.if-parent-eq-NONE.false c.find-at.result c.find-at.ensures c.if-at-eq-OPEN.false)).at_inside, c.requires.2.seen.of_keys.whole)
+bounds-keys-at c =
+    let found = parent_there c.requires.2 c.if-parent-eq-NONE.false c.find-at.result c.find-at.ensures c.if-at-eq-OPEN.false in
+    omega (arith, found.at_inside, c.requires.2.seen.of_keys.whole)
 
 pub returns-then-keys-at-ne0 : goal.returns-then-keys-at-ne0
 returns-then-keys-at-ne0 c = λ rs cs ok.
@@ -24,13 +28,14 @@ returns-then-keys-at-ne0 c = λ rs cs ok.
     parent_waits ok apart _ (parent_there ok apart _ c.find-at.ensures c.if-at-eq-OPEN.false) c.if-keys-at-ne0.true
 
 pub bounds-nodes-at : goal.bounds-nodes-at
-bounds-nodes-at c = omega (arith, ((parent_there c.requires.2 c.if-parent-eq-NONE.false c.find-at.result c.find-at.ensures c.if-at-eq-OPEN.false)).at_inside, c.requires.2.seen.of_nodes.whole)
-
-pub offset_bounds-edges-nodes : goal.offset_bounds-edges-nodes
-offset_bounds-edges-nodes c = omega (arith, c.type_inv.nodes c.find-at.result)
+bounds-nodes-at c =
+    let found = parent_there c.requires.2 c.if-parent-eq-NONE.false c.find-at.result c.find-at.ensures c.if-at-eq-OPEN.false in
+    omega (arith, found.at_inside, c.requires.2.seen.of_nodes.whole)
 
 pub bounds-edges-nodes : goal.bounds-edges-nodes
-bounds-edges-nodes c = row_inside c.requires.2 c.if-parent-eq-NONE.false c.find-at.result ((parent_there c.requires.2 c.if-parent-eq-NONE.false c.find-at.result c.find-at.ensures c.if-at-eq-OPEN.false))
+bounds-edges-nodes c =
+    let found = parent_there c.requires.2 c.if-parent-eq-NONE.false c.find-at.result c.find-at.ensures c.if-at-eq-OPEN.false in
+    row_inside c.requires.2 c.if-parent-eq-NONE.false c.find-at.result found
 
 pub returns : goal.returns
 returns c = λ rs cs ok.

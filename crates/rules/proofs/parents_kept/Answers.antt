@@ -1,23 +1,12 @@
 -- `rules::parents_kept` meets its contract: whichever calls the arrays hold, those before the loop's place have their parents. Assumes nothing.
-use Prim.Native.Nat.{◌-◌}
 use native.Mathlib.Omega.{arith}
-use mathlib.Core.Path.{refl, ◌∙◌}
-use Rattle.lists.proofs.CountLaws.{denied, granted}
+use mathlib.Core.Path.{◌∙◌}
 use Rattle.rules.proofs.CallLaws.{passes_on, one_decides, all_pass}
 use Rattle.rules.proofs.ParentLaws.{parent_seen, call_kept}
-use Rattle.std.proofs.lemmas.Bool.{not_from_false, not_from_true}
 use Rattle.rules.proofs.parents_kept.Goals as goal
 
 pub loop-i-init : goal.loop-i-init
 loop-i-init c = (omega arith, λ rs cs seen j l. absurd (omega arith))
-
-pub bounds-parents-i : goal.bounds-parents-i
-bounds-parents-i c = let ok = c.requires.2 in
-    omega (arith, c.loop-i-test.true, ok.of_parents.whole, ok.seen.counted.count, ok.seen.counted.few)
-
-pub bounds-nodes-i : goal.bounds-nodes-i
-bounds-nodes-i c = let ok = c.requires.2 in
-    omega (arith, c.loop-i-test.true, ok.seen.of_nodes.whole, ok.seen.counted.count, ok.seen.counted.few)
 
 pub parent_kept-requires : goal.parent_kept-requires
 parent_kept-requires c = let seen = c.requires in
@@ -28,7 +17,7 @@ returns-then-not-parent_kept c = let i = c.loop-i.i in
     let inside = c.loop-i-test.true in
     λ rs cs ok.
     one_decides _ ok.seen.counted i inside
-    (call_kept ok i inside _ (c.parent_kept.ensures rs cs (parent_seen ok i inside)) ∙ denied _ _ refl (not_from_false _ c.if-not-parent_kept.true))
+    (call_kept ok i inside _ (c.parent_kept.ensures rs cs (parent_seen ok i inside)) ∙ c.if-not-parent_kept.true)
 
 pub loop-i-preserved : goal.loop-i-preserved
 loop-i-preserved c = let i = c.loop-i.i in
@@ -36,7 +25,7 @@ loop-i-preserved c = let i = c.loop-i.i in
       omega (arith, inside),
       λ rs cs ok.
           passes_on _ ok.seen.counted i inside (c.loop-i.invariant.1 rs cs ok)
-          (call_kept ok i inside _ (c.parent_kept.ensures rs cs (parent_seen ok i inside)) ∙ granted _ _ refl (not_from_true _ c.if-not-parent_kept.false)),
+          (call_kept ok i inside _ (c.parent_kept.ensures rs cs (parent_seen ok i inside)) ∙ c.if-not-parent_kept.false),
     )
 
 pub returns : goal.returns

@@ -9,7 +9,9 @@ use Rattle.rules.proofs.CallLaws.{PassTo}
 use Rattle.rules.proofs.parents_kept.Given as goal
 
 abbrev pub invariant-loop-i : goal.invariant-loop-i
-invariant-loop-i l = (l.i ≤ l.used) × ((rs : List Record) (cs : List Call) → AllParentsSeen rs cs l.tickets l.parents l.keys l.nodes l.used l.edges → PassTo (parent_kept rs cs) cs l.i)
+invariant-loop-i l =
+    (l.i ≤ l.used)
+    × ((rs : List Record) (cs : List Call) → AllParentsSeen rs cs l.tickets l.parents l.keys l.nodes l.used l.edges → PassTo (parent_kept rs cs) cs l.i)
 
 abbrev pub decreases-loop-i : goal.decreases-loop-i
 decreases-loop-i l = l.used - l.i

@@ -1,14 +1,10 @@
 -- `rules::settled` meets its contract: whichever net the arrays hold, nobody could be woken at the sites before the loop's. Assumes nothing.
-use Prim.Native.Nat.{◌-◌}
 use native.Mathlib.Omega.{arith}
-use Rattle.rules.proofs.SettledLaws.{keys_table, site_limited, limit_most, nobody-there, somebody-there, threadless, asleep_more, all_asleep}
+use Rattle.rules.proofs.SettledLaws.{keys_table, site_limited, nobody-there, somebody-there, threadless, asleep_more, all_asleep}
 use Rattle.rules.proofs.settled.Goals as goal
 
 pub loop-site-init : goal.loop-site-init
 loop-site-init c = (omega arith, λ rs cs ok s l. absurd (omega arith))
-
-pub bounds-threads-site : goal.bounds-threads-site
-bounds-threads-site c = omega (arith, c.loop-site-test.true, c.requires.2.threads_whole)
 
 -- a site without threads
 pub loop-site-preserved-then-most-eq0 : goal.loop-site-preserved-then-most-eq0
@@ -20,15 +16,6 @@ loop-site-preserved-then-most-eq0 c = let s = c.loop-site.site in
 
 pub limit-limit-requires : goal.limit-limit-requires
 limit-limit-requires c = site_limited c.requires.2 c.loop-site.site c.loop-site-test.true
-
-pub overflow_add-top : goal.overflow_add-top
-overflow_add-top c = omega (arith, (limit_most c.requires.2 c.loop-site.site c.loop-site-test.true _ c.limit-limit.ensures), c.loop-site-test.true)
-
-pub overflow_cast-base : goal.overflow_cast-base
-overflow_cast-base c = omega (arith, c.loop-site-test.true)
-
-pub overflow_cast-top-in-loop-site : goal.overflow_cast-top-in-loop-site
-overflow_cast-top-in-loop-site c = omega (arith, (limit_most c.requires.2 c.loop-site.site c.loop-site-test.true _ c.limit-limit.ensures), c.loop-site-test.true)
 
 pub waiter-requires : goal.waiter-requires
 waiter-requires c = keys_table c.requires.2

@@ -1,15 +1,10 @@
 -- `rules::tickets_kept` meets its contract: whichever calls the array holds, each ticket before the loop's place is found first at its own. Assumes nothing.
-use Prim.Native.Nat.{◌-◌}
 use native.Mathlib.Omega.{arith}
 use Rattle.rules.proofs.TicketLaws.{find_fits, none_fails, twice-fails, own-more, all_own}
 use Rattle.rules.proofs.tickets_kept.Goals as goal
 
 pub loop-i-init : goal.loop-i-init
 loop-i-init c = (omega arith, λ cs seen j l. absurd (omega arith))
-
-pub bounds-tickets-i : goal.bounds-tickets-i
-bounds-tickets-i c = let seen = c.requires.1 in
-    omega (arith, c.loop-i-test.true, seen.of_tickets.whole, seen.counted.count, seen.counted.few)
 
 pub returns-then-ticket-eq-NONE : goal.returns-then-ticket-eq-NONE
 returns-then-ticket-eq-NONE c = λ cs seen. none_fails seen c.loop-i.i c.loop-i-test.true c.if-ticket-eq-NONE.true

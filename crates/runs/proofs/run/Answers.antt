@@ -21,3 +21,22 @@ returns-then-text-to-lt-LINE c = λ first run. (c.loop-text.invariant first run,
 
 pub turn-turned-requires : goal.turn-turned-requires
 turn-turned-requires c = ((((let ok = c.requires in c.loop-text.invariant ok.0 ok.1)).net, ((let ok = c.requires in c.loop-text.invariant ok.0 ok.1)).runs_on), omega (arith, ((let ok = c.requires in c.loop-text.invariant ok.0 ok.1)).written.inside))
+
+pub overflow_add-commands : goal.overflow_add-commands
+overflow_add-commands c =
+    let ok = c.requires in
+    let stands = c.loop-text.invariant ok.0 ok.1 in
+    omega (arith, count_inside stands.went, behind_inside _ _ _ _ (sym c.in-Whole.is ∙ c.next_request-found.ensures))
+
+pub loop-text-smaller : goal.loop-text-smaller
+loop-text-smaller c = omega (arith, behind_inside _ _ _ _ (sym c.in-Whole.is ∙ c.next_request-found.ensures))
+
+pub loop-text-preserved : goal.loop-text-preserved
+loop-text-preserved c =
+    let ok = c.requires in
+    let written = (c.loop-text.invariant ok.0 ok.1).written in
+    let line_fits : c.loop-text.to + line_room ≤ length c.args.text.now =
+            omega (arith, written.inside, put_long written, c.if-text-to-lt-LINE.false) in
+    λ first run.
+    let here = c.loop-text.invariant first run in
+    goes_on _ _ here line_fits (sym c.in-Whole.is ∙ c.next_request-found.ensures) (c.turn-turned.ensures here.net here.runs_on)
