@@ -1,9 +1,8 @@
 -- The tests of entries as code makes them: one entry after the other, up to the first that fails, and each entry by the branches of its test.
 -- Assumes nothing.
-use Prim.Native.Nat.{ℕ, zero, suc, ◌+◌, ◌-◌, ◌<◌}
+use Prim.Native.Nat.{ℕ, ◌+◌, ◌<◌}
 use native.Mathlib.Numerals.{add-one}
-use native.Mathlib.Omega.{arith}
-use mathlib.Core.Path.{◌≡◌, refl, sym, ap, ◌∙◌}
+use mathlib.Core.Path.{◌≡◌, sym, ap, ◌∙◌}
 use mathlib.Core.Bool.{Bool, true, false}
 use mathlib.Core.List.{List}
 use lib.ListN.{length, get_or}
@@ -12,7 +11,7 @@ use borrow.Author.Tests.{eq-eqb, ne_eqb}
 use Rattle.lists.specs.Count.{every}
 use Rattle.lists.proofs.CountLaws.{never_both, not_true_false, and_both, every_at, get_or_inside}
 use Rattle.model.specs.PlanValue.{nowhere}
-use Rattle.record.specs.Step.{pair_rises, listed_node}
+use Rattle.record.specs.Step.{listed_node}
 use Rattle.audit.specs.Fits.{node_fits, pair_fits, edge_fits}
 
 -- One entry after the other
@@ -41,13 +40,6 @@ module _ (threads places levels : List ℕ) (n : ℕ) (inside : n < length place
       → ltb (get_or levels n 0) t ≡ node_fits threads places levels n
   unfolding node_fits
   listed_fits ne t e = rw (at, ne_eqb (get_or places n 0) nowhere ne, e)
-
--- A pair: the one before it stands one place lower
-
-pub pair_there : (callers callees : List ℕ) (i : ℕ) → (i ≡ 0 → ⊥)
-    → pair_fits callers callees i ≡ pair_rises (get_or callers (i - 1) 0) (get_or callees (i - 1) 0) (get_or callers i 0) (get_or callees i 0)
-pair_there callers callees zero ne = absurd (ne refl)
-pair_there callers callees (suc i) ne = let down : suc i - 1 ≡ i = omega arith in rw down
 
 -- An edge: a node that has no record decides, and else the pair
 

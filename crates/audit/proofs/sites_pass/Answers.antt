@@ -12,7 +12,8 @@ loop-site-init c = (refl, omega arith)
 
 pub returns-then-threads-site-gt-THREADS : goal.returns-then-threads-site-gt-THREADS
 unfolding sites_fit site_fits
-returns-then-threads-site-gt-THREADS c = one_misfits (site_fits c.args.threads.now) sites c.loop-site.site c.loop-site-test.true (lt-leb _ _ c.if-threads-site-gt-THREADS.true)
+returns-then-threads-site-gt-THREADS c =
+    one_misfits (site_fits c.args.threads.now) sites c.loop-site.site c.loop-site-test.true (lt-leb _ _ c.if-threads-site-gt-THREADS.true)
 
 pub loop-site-preserved : goal.loop-site-preserved
 unfolding site_fits
@@ -23,5 +24,4 @@ loop-site-preserved c = (
 
 pub returns : goal.returns
 unfolding sites_fit
-returns c = all_fit (site_fits c.args.threads.now) sites c.loop-site.site
-    (omega (arith, c.loop-site.invariant.1, c.loop-site-test.false)) c.loop-site.invariant.0
+returns c = all_fit (site_fits c.args.threads.now) sites c.loop-site.site (omega arith) c.loop-site.invariant.0

@@ -12,6 +12,3 @@ loop-i-preserved c = (edge_more c.args.plan c.loop-i.i _ _ c.loop-i.invariant.0 
 
 pub returns : goal.returns
 returns c = edges-all c.args.plan _ c.loop-i.i (omega arith) c.loop-i.invariant.0
-
-pub take_nodes-audit-requires : goal.take_nodes-audit-requires
-take_nodes-audit-requires c = tt

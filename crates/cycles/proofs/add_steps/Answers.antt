@@ -1,5 +1,5 @@
 -- `cycles::add_steps` meets its contract. The loop's invariant: the rows of the nodes below n have taken their steps. Assumes nothing.
-use Prim.Native.Nat.{◌-◌, ◌<◌}
+use Prim.Native.Nat.{◌<◌}
 use native.Mathlib.Omega.{arith}
 use mathlib.Core.Path.{◌≡◌, subst}
 use lib.ListN.{length}

@@ -1,5 +1,4 @@
 -- `graph::circular` meets its contract. The loop's invariant: no edge of the nodes below n is closed backwards. Assumes nothing.
-use Prim.Native.Nat.{◌-◌}
 use native.Mathlib.Omega.{arith}
 use mathlib.Core.Path.{refl, sym, ◌∙◌}
 use borrow.Author.Count.{below_more}

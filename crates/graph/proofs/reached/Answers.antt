@@ -1,5 +1,5 @@
 -- `graph::reached` meets its contract. The loop's invariant is `Reaching`; what is not found and what is to be looked at, as one sum, falls. Assumes nothing.
-use Prim.Native.Nat.{◌-◌, ◌<◌}
+use Prim.Native.Nat.{◌<◌}
 use native.Mathlib.Omega.{arith}
 use Rattle.ids.specs.Limits.{nodes}
 use Rattle.words.proofs.LeastLaws.{least_inside}

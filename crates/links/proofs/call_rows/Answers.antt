@@ -1,5 +1,4 @@
 -- `links::call_rows` meets its contract. The loop's invariant: the rows have the call edges of the first i edge records. Assumes nothing.
-use Prim.Native.Nat.{◌-◌}
 use native.Mathlib.Omega.{arith}
 use mathlib.Core.Path.{refl}
 use Rattle.links.proofs.RowLaws.{no_links, links_more, links_all}

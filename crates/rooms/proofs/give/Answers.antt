@@ -1,5 +1,5 @@
 -- `rooms::give` meets its contract. The loop's invariant: the rooms of the first k levels are one more. Assumes nothing.
-use Prim.Native.Nat.{◌+◌, ◌-◌}
+use Prim.Native.Nat.{◌+◌}
 use native.Mathlib.Omega.{arith}
 use Rattle.lists.proofs.FillLaws.{filled_none, filled_each, filled_to}
 use Rattle.rooms.specs.Rooms.{one_more}

@@ -1,5 +1,5 @@
 -- `rooms::limit` meets its contract. The loop's invariant: `low` is the minimum over the levels below k. Assumes nothing.
-use Prim.Native.Nat.{ℕ, ◌+◌, ◌-◌}
+use Prim.Native.Nat.{ℕ, ◌+◌}
 use native.Mathlib.Omega.{arith}
 use mathlib.Core.Path.{subst, sym, ap, ◌∙◌}
 use mathlib.Core.Bool.{cond}

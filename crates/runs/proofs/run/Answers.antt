@@ -26,10 +26,10 @@ pub overflow_add-commands : goal.overflow_add-commands
 overflow_add-commands c =
     let ok = c.requires in
     let stands = c.loop-text.invariant ok.0 ok.1 in
-    omega (arith, count_inside stands.went, behind_inside _ _ _ _ (sym c.in-Whole.is ∙ c.next_request-found.ensures))
+    omega (arith, count_inside stands.went, behind_inside c.args.bytes.now c.loop-text.at c.in-Whole.request c.in-Whole.behind (sym c.in-Whole.is ∙ c.next_request-found.ensures))
 
 pub loop-text-smaller : goal.loop-text-smaller
-loop-text-smaller c = omega (arith, behind_inside _ _ _ _ (sym c.in-Whole.is ∙ c.next_request-found.ensures))
+loop-text-smaller c = omega (arith, behind_inside c.args.bytes.now c.loop-text.at c.in-Whole.request c.in-Whole.behind (sym c.in-Whole.is ∙ c.next_request-found.ensures))
 
 pub loop-text-preserved : goal.loop-text-preserved
 loop-text-preserved c =

@@ -1,5 +1,4 @@
 -- `table::has_child` meets its contract. The loop's invariant: the ticket stands nowhere below `base`, which is a whole number of blocks. Assumes nothing.
-use Prim.Native.Nat.{◌-◌}
 use native.Mathlib.Omega.{arith}
 use mathlib.Core.Path.{sym, ◌∙◌}
 use Rattle.ids.specs.Limits.{most_open}

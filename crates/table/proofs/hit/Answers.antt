@@ -1,5 +1,4 @@
 -- `table::hit` meets its contract. The loop's invariant: whether the number stands in the first j places of the block. Assumes nothing.
-use Prim.Native.Nat.{◌-◌}
 use native.Mathlib.Omega.{arith}
 use mathlib.Core.Path.{refl, sym}
 use Rattle.lists.proofs.BlockLaws.{some_start, some_turn, some_end}

@@ -1,5 +1,4 @@
 -- `table::look` meets its contract. The loop's invariant: the number does not stand in the first j places of the block. Assumes nothing.
-use Prim.Native.Nat.{◌-◌}
 use native.Mathlib.Omega.{arith}
 use borrow.Author.Tests.{eq-eqb, ne_eqb}
 use Rattle.lists.proofs.BlockLaws.{first_passed, first_here, first_end}

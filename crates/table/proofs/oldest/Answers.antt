@@ -1,5 +1,4 @@
 -- `table::oldest` meets its contract. The loop's invariant: no such number stands in the first j places of the block. Assumes nothing.
-use Prim.Native.Nat.{◌-◌}
 use native.Mathlib.Omega.{arith}
 use Rattle.lists.proofs.BlockLaws.{first_passed, first_here, first_end}
 use Rattle.table.specs.Places.{between, block}

@@ -1,6 +1,5 @@
 -- `table::remove` meets its contract. The loop's invariant: in each array the places from the gap up to i hold what stood one place further. Behind the
 -- last number stood a zero, so that the zero at the end is one more such place. Assumes nothing.
-use Prim.Native.Nat.{◌-◌}
 use native.Mathlib.Omega.{arith}
 use Rattle.table.proofs.GapLaws.{gap_turn, gap_end, gaps_open}
 use Rattle.table.proofs.remove.Goals as goal

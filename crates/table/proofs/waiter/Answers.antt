@@ -1,5 +1,4 @@
 -- `table::waiter` meets its contract. The loop's invariant: such a number stands nowhere below `base`, which is a whole number of blocks. Assumes nothing.
-use Prim.Native.Nat.{◌-◌}
 use native.Mathlib.Omega.{arith}
 use mathlib.Core.Path.{sym, ◌∙◌}
 use Rattle.ids.specs.Limits.{most_open}
