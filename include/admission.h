@@ -4,7 +4,7 @@
  * below its threads, at most threads - k active calls have level k or higher. A call may start when the site stays lawful with it. The levels
  * that may start are always the lowest ones, up to a highest; admission_level says how many they are.
  *
- * To link: build the archive by `rt staticlib book`, then
+ * To link: build the archive by `tests/build book_c`, then
  *     cc -Iinclude program.c target/staticlib/libbook.a
  * The archive is for x86-64 and needs only memcpy from outside.
  */

@@ -10,7 +10,9 @@ use model::{PlanRefusal, ReadAnswer};
 use transcript::Halt;
 use value::Net;
 
-// The bytes of text that are held at a time; of input it is `io::large_buffer`.
+// The bytes that are held at a time, of input and of text.
+const INPUT: usize = 65536;
+
 const TEXT: usize = 131072;
 
 // The records of the largest plan, and behind them the longest record: with so many bytes a reading is decided.
@@ -40,22 +42,21 @@ fn plus(a: usize, b: usize) -> usize {
 }
 
 // One read behind the bytes that are there; answers how many are there then: as many as before at the end, and where there is no room.
-fn more(input: &mut [u8], have: usize) -> usize
+fn more(rt: &HostRuntime, input: &mut [u8], have: usize) -> usize
     ensures { length input.new ≡ length input.old }
 {
     if input.len() < have {
         return have;
     }
-    let got = libc::read(libc::STDIN_FILENO, &mut input[have..]);
-    have + io::count(got, &input[have..])
+    have + streams::read_some(&mut rt.stdin(), &mut input[have..])
 }
 
 // Writes the text up to a place; a failed write is told.
-fn write(text: &[u8], to: usize) -> bool {
+fn write(rt: &HostRuntime, text: &[u8], to: usize) -> bool {
     if text.len() < to {
         return false;
     }
-    io::write_all(libc::STDOUT_FILENO, &text[..to])
+    rt.write_all(&text[..to]).is_ok()
 }
 
 // Whether more bytes could change the reading: it ended where the bytes did, and a plan could be longer.
@@ -82,14 +83,12 @@ fn undecided(bytes: &[u8]) -> bool {
 }
 
 // Reads until the plan is decided or the input ends; answers how many bytes are there.
-fn read_plan(input: &mut [u8]) -> usize
+fn read_plan(rt: &HostRuntime, input: &mut [u8]) -> usize
     ensures { length input.new ≡ length input.old }
 {
     let mut have = 0;
-    let mut pieces = PLAN;
-    while pieces > 0 {
-        pieces -= 1;
-        let there = more(input, have);
+    for _ in 0..PLAN {
+        let there = more(rt, input, have);
         if there == have {
             return have;
         }
@@ -119,12 +118,12 @@ fn ending(text: &mut [u8], why: Halt, commands: usize, offset: usize) -> usize
 }
 
 // Writes the last line; there is nobody to tell where that fails.
-fn close(text: &mut [u8], why: Halt, commands: usize, offset: usize)
+fn close(rt: &HostRuntime, text: &mut [u8], why: Halt, commands: usize, offset: usize)
     requires { 131072 ≡ length text.old }
     ensures { length text.new ≡ length text.old }
 {
     let to = ending(text, why, commands, offset);
-    write(text, to);
+    write(rt, text, to);
 }
 
 // Moves what stands from a place on to the front; answers how many bytes are there then.
@@ -167,11 +166,11 @@ fn full(why: Halt) -> bool {
 }
 
 // More bytes where they are wanted.
-fn wanted(input: &mut [u8], have: usize, wanted: bool) -> usize
+fn wanted(rt: &HostRuntime, input: &mut [u8], have: usize, wanted: bool) -> usize
     ensures { length input.new ≡ length input.old }
 {
     if wanted {
-        return more(input, have);
+        return more(rt, input, have);
     }
     have
 }
@@ -189,7 +188,7 @@ fn over(net: Net) -> Stand {
 }
 
 // One turn: the commands that are there are answered and their lines written; then more is read, or the last line is written.
-fn turn(stand: Stand, input: &mut [u8], text: &mut [u8]) -> Stand
+fn turn(rt: &HostRuntime, stand: Stand, input: &mut [u8], text: &mut [u8]) -> Stand
     requires { 131072 ≡ length text.old }
     ensures input_len_unchanged { length input.new ≡ length input.old }
     ensures text_len_unchanged { length text.new ≡ length text.old }
@@ -201,7 +200,7 @@ fn turn(stand: Stand, input: &mut [u8], text: &mut [u8]) -> Stand
     let ran = transcript::run(stand.net, &input[..have], stand.at, text);
     let net = ran.net;
     let at = ran.at;
-    if !write(text, ran.to) {
+    if !write(rt, text, ran.to) {
         return over(net);
     }
     let why = ran.why;
@@ -218,7 +217,7 @@ fn turn(stand: Stand, input: &mut [u8], text: &mut [u8]) -> Stand
     }
     let passed = plus(stand.passed, at);
     let rest = carry(input, at, have);
-    let there = wanted(input, rest, waits(why));
+    let there = wanted(rt, input, rest, waits(why));
     if there != rest {
         return Stand {
             net,
@@ -229,20 +228,20 @@ fn turn(stand: Stand, input: &mut [u8], text: &mut [u8]) -> Stand
             open: true,
         };
     }
-    close(text, why, commands, passed);
+    close(rt, text, why, commands, passed);
     over(net)
 }
 
-fn main() {
-    let mut input = io::large_buffer();
+fn main(rt: HostRuntime) {
+    let mut input = [0u8; INPUT];
     let mut text = [0u8; TEXT];
-    let have = read_plan(&mut input);
+    let have = read_plan(&rt, &mut input);
     if input.len() < have {
         return;
     }
     let read = plan::read(&input[..have]);
     let to = shown::first_line(&mut text, 0, read);
-    if !write(&text, to) {
+    if !write(&rt, &text, to) {
         return;
     }
     let answer = read.answer;
@@ -260,10 +259,8 @@ fn main() {
         commands: 0,
         open: true,
     };
-    let mut pieces = PIECES;
-    while pieces > 0 {
-        pieces -= 1;
-        stand = turn(stand, &mut input, &mut text);
+    for _ in 0..PIECES {
+        stand = turn(&rt, stand, &mut input, &mut text);
         if !stand.open {
             return;
         }

@@ -7,10 +7,10 @@ use ids::{Node, Site};
 // The records of the largest plan, and behind them the longest record: so that whatever stands there is seen whole.
 const MOST_BYTES: usize = 3 * Site::COUNT + 4 * Node::COUNT + 3 * Node::EDGES + 4;
 
-fn main() {
+fn main(rt: HostRuntime) {
     let mut input = [0u8; MOST_BYTES];
-    let got = io::read_full(libc::STDIN_FILENO, &mut input);
+    let got = streams::read_full(&mut rt.stdin(), &mut input);
     let mut text = [0u8; shown::ROOM];
     let used = shown::show(&mut text, &input[..got]);
-    io::write_all(libc::STDOUT_FILENO, &text[..used]);
+    let _ = rt.write_all(&text[..used]);
 }

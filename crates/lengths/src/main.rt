@@ -12,26 +12,26 @@ const UNTOUCHED: u8 = 170;
 // The largest file, and one byte more.
 const MOST: usize = 3 * Site::COUNT + 4 * Node::COUNT + 3 * Node::EDGES + 2;
 
-fn say(words: &[u8]) {
-    io::write_all(libc::STDOUT_FILENO, words);
+fn say(rt: &HostRuntime, words: &[u8]) {
+    let _ = rt.write_all(words);
 }
 
-fn say_answer(answer: WriteAnswer) {
+fn say_answer(rt: &HostRuntime, answer: WriteAnswer) {
     match answer {
         WriteAnswer::Written(length) => {
-            io::print_decimal(libc::STDOUT_FILENO, length as u64);
+            let _ = rt.print(length);
         }
-        WriteAnswer::BrokenPlan => say(b"R 18"),
-        WriteAnswer::ShortBuffer => say(b"R 10"),
+        WriteAnswer::BrokenPlan => say(rt, b"R 18"),
+        WriteAnswer::ShortBuffer => say(rt, b"R 10"),
     }
 }
 
 // Some bytes from the start on.
-fn say_front(bytes: &[u8], shown: usize) {
+fn say_front(rt: &HostRuntime, bytes: &[u8], shown: usize) {
     if bytes.len() < shown {
         return;
     }
-    say(&bytes[..shown]);
+    say(rt, &bytes[..shown]);
 }
 
 // Lends so many of these bytes; where there are not so many, none.
@@ -43,34 +43,32 @@ fn lend(plan: Plan, bytes: &mut [u8], length: usize) -> WriteAnswer {
 }
 
 // The answer for a buffer of some length; then so many bytes from its start on, also where they were not lent.
-fn try_length(plan: Plan, length: usize, shown: usize) {
+fn try_length(rt: &HostRuntime, plan: Plan, length: usize, shown: usize) {
     let mut bytes = [UNTOUCHED; MOST];
     let answer = lend(plan, &mut bytes, length);
-    io::print_decimal(libc::STDOUT_FILENO, length as u64);
-    say(b": ");
-    say_answer(answer);
-    say(b"\n");
-    say_front(&bytes, shown);
-    say(b"\n");
+    let _ = rt.print(length);
+    say(rt, b": ");
+    say_answer(rt, answer);
+    say(rt, b"\n");
+    say_front(rt, &bytes, shown);
+    say(rt, b"\n");
 }
 
 // Each length up to one more than the file's.
-fn try_lengths(plan: Plan, file: usize) {
+fn try_lengths(rt: &HostRuntime, plan: Plan, file: usize) {
     if MOST <= file {
         return;
     }
-    let mut length = 0;
-    while length <= file + 1 {
-        try_length(plan, length, file + 1);
-        length += 1;
+    for length in 0..file + 2 {
+        try_length(rt, plan, length, file + 1);
     }
 }
 
-fn show_value(words: &[u8], plan: Plan) {
-    say(words);
-    say(b"\n");
-    try_length(plan, 0, 0);
-    try_length(plan, MOST, 24);
+fn show_value(rt: &HostRuntime, words: &[u8], plan: Plan) {
+    say(rt, words);
+    say(rt, b"\n");
+    try_length(rt, plan, 0, 0);
+    try_length(rt, plan, MOST, 24);
 }
 
 // Two sites of 1 thread with a node each, 0 and 1; an edge from 0 to 1.
@@ -118,27 +116,27 @@ fn with_node(place: u8, level: u8) -> Plan {
     plan
 }
 
-fn show_values() {
-    show_value(b"a sound value", small_plan());
-    show_value(b"the same with strays", with_strays());
-    show_value(b"the empty plan", record::empty());
-    show_value(b"an edge twice", with_edge(0, 1));
-    show_value(b"edges in another order", with_edge(0, 0));
-    show_value(b"an edge to no node", with_edge(1, 2));
-    show_value(b"a loop", with_edge(1, 0));
-    show_value(b"a level at the threads", with_node(0, 1));
-    show_value(b"a node at no site", with_node(2, 0));
-    show_value(b"257 edges", with_edges(257));
-    show_value(b"2^64-1 edges", with_edges(18446744073709551615));
+fn show_values(rt: &HostRuntime) {
+    show_value(rt, b"a sound value", small_plan());
+    show_value(rt, b"the same with strays", with_strays());
+    show_value(rt, b"the empty plan", record::empty());
+    show_value(rt, b"an edge twice", with_edge(0, 1));
+    show_value(rt, b"edges in another order", with_edge(0, 0));
+    show_value(rt, b"an edge to no node", with_edge(1, 2));
+    show_value(rt, b"a loop", with_edge(1, 0));
+    show_value(rt, b"a level at the threads", with_node(0, 1));
+    show_value(rt, b"a node at no site", with_node(2, 0));
+    show_value(rt, b"257 edges", with_edges(257));
+    show_value(rt, b"2^64-1 edges", with_edges(18446744073709551615));
 }
 
-fn main() {
+fn main(rt: HostRuntime) {
     let mut input = [0u8; MOST];
-    let got = io::read_full(libc::STDIN_FILENO, &mut input);
+    let got = streams::read_full(&mut rt.stdin(), &mut input);
     let read = plan::read(&input[..got]);
     let answer = read.answer;
     if let ReadAnswer::Accepted(used) = answer {
-        try_lengths(read.plan, used);
+        try_lengths(&rt, read.plan, used);
     }
-    show_values();
+    show_values(&rt);
 }

@@ -6,6 +6,9 @@ use model::ReadAnswer;
 use transcript::Halt;
 use value::Net;
 
+// The bytes of input that are held.
+const INPUT: usize = 65536;
+
 // The longest text that is tried.
 const MOST: usize = 70;
 
@@ -15,53 +18,53 @@ const LINE: usize = 22;
 // More pieces than the input has commands.
 const PIECES: usize = 64;
 
-fn say(words: &[u8]) {
-    io::write_all(libc::STDOUT_FILENO, words);
+fn say(rt: &HostRuntime, words: &[u8]) {
+    let _ = rt.write_all(words);
 }
 
 // A word and a number.
-fn say_item(word: &[u8], number: usize) {
-    say(word);
-    io::print_decimal(libc::STDOUT_FILENO, number as u64);
+fn say_item(rt: &HostRuntime, word: &[u8], number: usize) {
+    say(rt, word);
+    let _ = rt.print(number);
 }
 
-fn say_halt(why: Halt) {
+fn say_halt(rt: &HostRuntime, why: Halt) {
     match why {
-        Halt::Full => say(b", full\n"),
-        Halt::End => say(b", end\n"),
-        Halt::Cut => say(b", cut\n"),
-        Halt::Unknown => say(b", unknown\n"),
-        Halt::Broken => say(b", broken\n"),
+        Halt::Full => say(rt, b", full\n"),
+        Halt::End => say(rt, b", end\n"),
+        Halt::Cut => say(rt, b", cut\n"),
+        Halt::Unknown => say(rt, b", unknown\n"),
+        Halt::Broken => say(rt, b", broken\n"),
     }
 }
 
 // One run over a text of this length.
-fn try_length(net: Net, bytes: &[u8], from: usize, length: usize) {
+fn try_length(rt: &HostRuntime, net: Net, bytes: &[u8], from: usize, length: usize) {
     let mut text = [0u8; MOST];
     if MOST < length {
         return;
     }
     let ran = transcript::run(net, bytes, from, &mut text[..length]);
     let why = ran.why;
-    say_item(b"text ", length);
-    say_item(b": commands ", ran.commands);
-    say_item(b", read to ", ran.at);
-    say_item(b", written to ", ran.to);
-    say_halt(why);
+    say_item(rt, b"text ", length);
+    say_item(rt, b": commands ", ran.commands);
+    say_item(rt, b", read to ", ran.at);
+    say_item(rt, b", written to ", ran.to);
+    say_halt(rt, why);
 }
 
-fn try_lengths(net: Net, bytes: &[u8], from: usize) {
+fn try_lengths(rt: &HostRuntime, net: Net, bytes: &[u8], from: usize) {
     for length in 0..MOST + 1 {
-        try_length(net, bytes, from, length);
+        try_length(rt, net, bytes, from, length);
     }
 }
 
 // The lines of a run up to a place.
-fn print(text: &[u8], to: usize) {
+fn print(rt: &HostRuntime, text: &[u8], to: usize) {
     if text.len() < to {
         return;
     }
-    say(&text[..to]);
+    say(rt, &text[..to]);
 }
 
 // Whether a run can go on with an empty text.
@@ -76,13 +79,13 @@ fn goes_on(why: Halt) -> bool {
 }
 
 // The run in pieces: each takes up where the one before stopped.
-fn in_pieces(first: Net, bytes: &[u8], from: usize) {
+fn in_pieces(rt: &HostRuntime, first: Net, bytes: &[u8], from: usize) {
     let mut net = first;
     let mut at = from;
     for _ in 0..PIECES {
         let mut text = [0u8; LINE];
         let ran = transcript::run(net, bytes, at, &mut text);
-        print(&text, ran.to);
+        print(rt, &text, ran.to);
         let why = ran.why;
         net = ran.net;
         at = ran.at;
@@ -92,9 +95,9 @@ fn in_pieces(first: Net, bytes: &[u8], from: usize) {
     }
 }
 
-fn main() {
-    let mut input = io::large_buffer();
-    let got = io::read_full(libc::STDIN_FILENO, &mut input);
+fn main(rt: HostRuntime) {
+    let mut input = [0u8; INPUT];
+    let got = streams::read_full(&mut rt.stdin(), &mut input);
     let read = plan::read(&input[..got]);
     let answer = read.answer;
     let ReadAnswer::Accepted(used) = answer else {
@@ -103,6 +106,6 @@ fn main() {
     let plan = read.plan;
     let made = net::make(plan);
     let net = made.net;
-    try_lengths(net, &input[..got], used);
-    in_pieces(net, &input[..got], used);
+    try_lengths(&rt, net, &input[..got], used);
+    in_pieces(&rt, net, &input[..got], used);
 }

@@ -89,15 +89,13 @@ fn all(first: Net, bytes: &[u8], from: usize) -> Answered {
 }
 
 // A number on a line of its own.
-fn print(number: u64) {
-    io::print_decimal(libc::STDOUT_FILENO, number);
-    let end = [b'\n'];
-    io::write_all(libc::STDOUT_FILENO, &end);
+fn print(rt: &HostRuntime, number: u64) {
+    let _ = rt.println(number);
 }
 
-fn main() {
-    let mut input = io::large_buffer();
-    let got = io::read_full(libc::STDIN_FILENO, &mut input);
+fn main(rt: HostRuntime) {
+    let mut input = [0u8; MOST];
+    let got = streams::read_full(&mut rt.stdin(), &mut input);
     let read = plan::read(&input[..got]);
     let answer = read.answer;
     let ReadAnswer::Accepted(used) = answer else {
@@ -106,6 +104,6 @@ fn main() {
     let plan = read.plan;
     let made = net::make(plan);
     let answered = all(made.net, &input[..got], used);
-    print(answered.commands);
-    print(answered.refused);
+    print(&rt, answered.commands);
+    print(&rt, answered.refused);
 }

@@ -6,38 +6,38 @@ use model::Plan;
 use record::Checked;
 use value::{AskAnswer, Call, CommandAnswer, Commanded, Net, NetRoom};
 
-fn say(words: &[u8]) {
-    io::write_all(libc::STDOUT_FILENO, words);
+fn say(rt: &HostRuntime, words: &[u8]) {
+    let _ = rt.write_all(words);
 }
 
 // A word and a number.
-fn say_item(word: &[u8], number: u64) {
-    say(word);
-    io::print_decimal(libc::STDOUT_FILENO, number);
+fn say_item(rt: &HostRuntime, word: &[u8], number: u64) {
+    say(rt, word);
+    let _ = rt.print(number);
 }
 
-fn say_answer(answer: CommandAnswer) {
+fn say_answer(rt: &HostRuntime, answer: CommandAnswer) {
     match answer {
-        CommandAnswer::Active => say(b"active"),
-        CommandAnswer::Waiting(level) => say_item(b"waits for level ", level.0 as u64),
-        CommandAnswer::Ended(admitted) => say_item(b"admits ", admitted.0 as u64),
-        CommandAnswer::Refused(number) => say_item(b"refused ", number as u64),
+        CommandAnswer::Active => say(rt, b"active"),
+        CommandAnswer::Waiting(level) => say_item(rt, b"waits for level ", level.0 as u64),
+        CommandAnswer::Ended(admitted) => say_item(rt, b"admits ", admitted.0 as u64),
+        CommandAnswer::Refused(number) => say_item(rt, b"refused ", number as u64),
     }
 }
 
-fn say_ask(answer: AskAnswer) {
+fn say_ask(rt: &HostRuntime, answer: AskAnswer) {
     match answer {
-        AskAnswer::Active => say(b"active"),
-        AskAnswer::Waiting => say(b"waits"),
-        AskAnswer::NotOpen => say(b"not open"),
-        AskAnswer::Refused(number) => say_item(b"refused ", number as u64),
+        AskAnswer::Active => say(rt, b"active"),
+        AskAnswer::Waiting => say(rt, b"waits"),
+        AskAnswer::NotOpen => say(rt, b"not open"),
+        AskAnswer::Refused(number) => say_item(rt, b"refused ", number as u64),
     }
 }
 
-fn say_room(answer: NetRoom) {
+fn say_room(rt: &HostRuntime, answer: NetRoom) {
     match answer {
-        NetRoom::Room(room) => say_item(b"has ", room as u64),
-        NetRoom::Refused(number) => say_item(b"refused ", number as u64),
+        NetRoom::Room(room) => say_item(rt, b"has ", room as u64),
+        NetRoom::Refused(number) => say_item(rt, b"refused ", number as u64),
     }
 }
 
@@ -47,12 +47,10 @@ fn same_bytes<'a>(ones: &'a [u8], others: &'a [u8]) -> bool {
     if ones.len() != others.len() {
         return false;
     }
-    let mut i = 0;
-    while i < ones.len() {
+    for i in 0..ones.len() {
         if ones[i] != others[i] {
             return false;
         }
-        i += 1;
     }
     true
 }
@@ -73,12 +71,10 @@ fn same_call(one: Call, other: Call) -> bool {
 fn same_calls(one: Net, other: Net) -> bool {
     let ones = one.calls;
     let others = other.calls;
-    let mut i = 0;
-    while i < Ticket::OPEN {
+    for i in 0..Ticket::OPEN {
         if !same_call(ones[i], others[i]) {
             return false;
         }
-        i += 1;
     }
     true
 }
@@ -116,82 +112,82 @@ fn same_nets(one: Net, other: Net) -> bool {
 }
 
 // A command's answer and what became of the net: the same, or how many calls are open and the rule that is broken.
-fn say_done(before: Net, done: Commanded) {
+fn say_done(rt: &HostRuntime, before: Net, done: Commanded) {
     let answer = done.answer;
     let after = done.net;
-    say_answer(answer);
+    say_answer(rt, answer);
     if same_nets(before, after) {
-        say(b", same net");
+        say(rt, b", same net");
     } else {
-        say_item(b", open ", after.used as u64);
-        say_item(b", rule ", net::check(after) as u64);
+        say_item(rt, b", open ", after.used as u64);
+        say_item(rt, b", rule ", net::check(after) as u64);
     }
 }
 
 // The rule that a net breaks, and what every function answers of it.
-fn show_net(words: &[u8], net: Net) {
-    say(words);
-    say_item(b": rule ", net::check(net) as u64);
-    say(b"; start ");
-    say_done(net, net::start(net, Ticket(5), Node(0)));
-    say(b"; call ");
-    say_done(net, net::call(net, Ticket(1), Ticket(5), Node(1)));
-    say(b"; return ");
-    say_done(net, net::finish(net, Ticket(2)));
-    say(b"; taking back ");
-    say_done(net, net::take_back(net, Ticket(2)));
-    say(b"; ask ");
-    say_ask(net::ask(net, Ticket(1)));
-    say(b"; room ");
-    say_room(net::room(net, Site(0), Level(0)));
-    say(b"\n");
+fn show_net(rt: &HostRuntime, words: &[u8], net: Net) {
+    say(rt, words);
+    say_item(rt, b": rule ", net::check(net) as u64);
+    say(rt, b"; start ");
+    say_done(rt, net, net::start(net, Ticket(5), Node(0)));
+    say(rt, b"; call ");
+    say_done(rt, net, net::call(net, Ticket(1), Ticket(5), Node(1)));
+    say(rt, b"; return ");
+    say_done(rt, net, net::finish(net, Ticket(2)));
+    say(rt, b"; taking back ");
+    say_done(rt, net, net::take_back(net, Ticket(2)));
+    say(rt, b"; ask ");
+    say_ask(rt, net::ask(net, Ticket(1)));
+    say(rt, b"; room ");
+    say_room(rt, net::room(net, Site(0), Level(0)));
+    say(rt, b"\n");
 }
 
 // A command on a net, which is handed on as it comes back.
 
-fn try_start(net: Net, ticket: u16, node: u8) -> Net {
+fn try_start(rt: &HostRuntime, net: Net, ticket: u16, node: u8) -> Net {
     let done = net::start(net, Ticket(ticket), Node(node));
-    say_item(b"start ", ticket as u64);
-    say_item(b" at ", node as u64);
-    say(b": ");
-    say_done(net, done);
-    say(b"\n");
+    say_item(rt, b"start ", ticket as u64);
+    say_item(rt, b" at ", node as u64);
+    say(rt, b": ");
+    say_done(rt, net, done);
+    say(rt, b"\n");
     done.net
 }
 
-fn try_call(net: Net, parent: u16, ticket: u16, node: u8) -> Net {
+fn try_call(rt: &HostRuntime, net: Net, parent: u16, ticket: u16, node: u8) -> Net {
     let done = net::call(net, Ticket(parent), Ticket(ticket), Node(node));
-    say_item(b"call from ", parent as u64);
-    say_item(b" of ", ticket as u64);
-    say_item(b" at ", node as u64);
-    say(b": ");
-    say_done(net, done);
-    say(b"\n");
+    say_item(rt, b"call from ", parent as u64);
+    say_item(rt, b" of ", ticket as u64);
+    say_item(rt, b" at ", node as u64);
+    say(rt, b": ");
+    say_done(rt, net, done);
+    say(rt, b"\n");
     done.net
 }
 
-fn try_return(net: Net, ticket: u16) -> Net {
+fn try_return(rt: &HostRuntime, net: Net, ticket: u16) -> Net {
     let done = net::finish(net, Ticket(ticket));
-    say_item(b"return ", ticket as u64);
-    say(b": ");
-    say_done(net, done);
-    say(b"\n");
+    say_item(rt, b"return ", ticket as u64);
+    say(rt, b": ");
+    say_done(rt, net, done);
+    say(rt, b"\n");
     done.net
 }
 
-fn try_ask(net: Net, ticket: u16) {
-    say_item(b"ask ", ticket as u64);
-    say(b": ");
-    say_ask(net::ask(net, Ticket(ticket)));
-    say(b"\n");
+fn try_ask(rt: &HostRuntime, net: Net, ticket: u16) {
+    say_item(rt, b"ask ", ticket as u64);
+    say(rt, b": ");
+    say_ask(rt, net::ask(net, Ticket(ticket)));
+    say(rt, b"\n");
 }
 
-fn try_room(net: Net, site: u8, level: u8) {
-    say_item(b"room of ", site as u64);
-    say_item(b" at level ", level as u64);
-    say(b": ");
-    say_room(net::room(net, Site(site), Level(level)));
-    say(b"\n");
+fn try_room(rt: &HostRuntime, net: Net, site: u8, level: u8) {
+    say_item(rt, b"room of ", site as u64);
+    say_item(rt, b" at level ", level as u64);
+    say(rt, b": ");
+    say_room(rt, net::room(net, Site(site), Level(level)));
+    say(rt, b"\n");
 }
 
 // Two sites of 1 thread with a node each, 0 and 1, both of level 0; an edge from 0 to 1.
@@ -275,38 +271,38 @@ fn with_plan(plan: Plan) -> Net {
 
 // The sound net with one thing changed.
 
-fn show_plan(words: &[u8], plan: Plan) {
-    show_net(words, with_plan(plan));
+fn show_plan(rt: &HostRuntime, words: &[u8], plan: Plan) {
+    show_net(rt, words, with_plan(plan));
 }
 
-fn show_used(words: &[u8], used: usize) {
+fn show_used(rt: &HostRuntime, words: &[u8], used: usize) {
     let mut net = sound_net();
     net.used = used;
-    show_net(words, net);
+    show_net(rt, words, net);
 }
 
 // Another active call in the place of 2.
-fn show_second(words: &[u8], ticket: u16, parent: u16, node: u8) {
+fn show_second(rt: &HostRuntime, words: &[u8], ticket: u16, parent: u16, node: u8) {
     let mut net = sound_net();
     net.calls[1] = opened(ticket, parent, node, true);
-    show_net(words, net);
+    show_net(rt, words, net);
 }
 
 // Another waiting call in the place of 3.
-fn show_third(words: &[u8], ticket: u16, parent: u16, node: u8) {
+fn show_third(rt: &HostRuntime, words: &[u8], ticket: u16, parent: u16, node: u8) {
     let mut net = sound_net();
     net.calls[2] = opened(ticket, parent, node, false);
-    show_net(words, net);
+    show_net(rt, words, net);
 }
 
-fn show_count(words: &[u8], site: usize, level: usize, count: u8) {
+fn show_count(rt: &HostRuntime, words: &[u8], site: usize, level: usize, count: u8) {
     let mut net = sound_net();
     if site < Site::COUNT {
         if level < Site::THREADS {
             net.counts[Site::THREADS * site + level] = count;
         }
     }
-    show_net(words, net);
+    show_net(rt, words, net);
 }
 
 // Call 4 has a thread too, of which site 0 has one only.
@@ -351,10 +347,8 @@ fn too_long(plan: Plan) -> Net {
 fn crowd(used: usize) -> Net {
     let mut net = net::make(small_plan()).net;
     let mut calls = net.calls;
-    let mut i = 0;
-    while i < Ticket::OPEN {
+    for i in 0..Ticket::OPEN {
         calls[i] = opened(i as u16 + 1, 0, 1, true);
-        i += 1;
     }
     net.calls = calls;
     net.used = used;
@@ -362,176 +356,179 @@ fn crowd(used: usize) -> Net {
     net
 }
 
-fn broken_plans() {
-    show_plan(b"a level at the threads", plan_with_node(1, 1));
-    show_plan(b"65 threads", plan_with_threads(65));
-    show_plan(b"a node at no site", plan_with_node(2, 0));
-    show_plan(b"a node at site 254", plan_with_node(254, 0));
-    show_plan(b"an edge to no node", plan_with_edge(0, 2));
-    show_plan(b"an edge to node 64", plan_with_edge(0, 64));
-    show_plan(b"an edge twice", plan_with_edge(0, 1));
-    show_plan(b"257 edges", plan_with_edges(257));
-    show_plan(b"2^64-1 edges", plan_with_edges(18446744073709551615));
+fn broken_plans(rt: &HostRuntime) {
+    show_plan(rt, b"a level at the threads", plan_with_node(1, 1));
+    show_plan(rt, b"65 threads", plan_with_threads(65));
+    show_plan(rt, b"a node at no site", plan_with_node(2, 0));
+    show_plan(rt, b"a node at site 254", plan_with_node(254, 0));
+    show_plan(rt, b"an edge to no node", plan_with_edge(0, 2));
+    show_plan(rt, b"an edge to node 64", plan_with_edge(0, 64));
+    show_plan(rt, b"an edge twice", plan_with_edge(0, 1));
+    show_plan(rt, b"257 edges", plan_with_edges(257));
+    show_plan(rt, b"2^64-1 edges", plan_with_edges(18446744073709551615));
 }
 
-fn broken_tickets() {
-    show_used(b"257 open calls", 257);
+fn broken_tickets(rt: &HostRuntime) {
+    show_used(rt, b"257 open calls", 257);
     show_net(
+        rt,
         b"257 open calls, 65 threads",
         too_long(plan_with_threads(65)),
     );
-    show_net(b"257 open calls, 257 edges", too_long(plan_with_edges(257)));
-    show_used(b"2^64-1 open calls", 18446744073709551615);
-    show_third(b"ticket 1 twice", 1, 0, 1);
-    show_third(b"ticket 0", 0, 0, 1);
-    show_used(b"spare places counted", 6);
+    show_net(
+        rt,
+        b"257 open calls, 257 edges",
+        too_long(plan_with_edges(257)),
+    );
+    show_used(rt, b"2^64-1 open calls", 18446744073709551615);
+    show_third(rt, b"ticket 1 twice", 1, 0, 1);
+    show_third(rt, b"ticket 0", 0, 0, 1);
+    show_used(rt, b"spare places counted", 6);
 }
 
-fn broken_nodes() {
-    show_third(b"node 2", 3, 0, 2);
-    show_third(b"node 64", 3, 0, 64);
-    show_third(b"node 255", 3, 0, 255);
-    show_third(b"ticket 0, node 255, parent 9", 0, 9, 255);
-    show_third(b"node 255, parent 9", 3, 9, 255);
+fn broken_nodes(rt: &HostRuntime) {
+    show_third(rt, b"node 2", 3, 0, 2);
+    show_third(rt, b"node 64", 3, 0, 64);
+    show_third(rt, b"node 255", 3, 0, 255);
+    show_third(rt, b"ticket 0, node 255, parent 9", 0, 9, 255);
+    show_third(rt, b"node 255, parent 9", 3, 9, 255);
 }
 
-fn broken_parents() {
-    show_second(b"a parent that is not open", 2, 9, 1);
-    show_second(b"a parent that waits", 2, 4, 1);
-    show_third(b"a parent without the edge", 3, 2, 1);
-    show_second(b"its own parent", 2, 2, 1);
-    show_third(b"its own parent, waiting", 3, 3, 1);
+fn broken_parents(rt: &HostRuntime) {
+    show_second(rt, b"a parent that is not open", 2, 9, 1);
+    show_second(rt, b"a parent that waits", 2, 4, 1);
+    show_third(rt, b"a parent without the edge", 3, 2, 1);
+    show_second(rt, b"its own parent", 2, 2, 1);
+    show_third(rt, b"its own parent, waiting", 3, 3, 1);
 }
 
-fn broken_counts() {
-    show_count(b"a count too low", 0, 0, 0);
-    show_count(b"a count too high", 1, 0, 2);
-    show_count(b"a count above the threads", 0, 1, 1);
-    show_count(b"a count at no site", 15, 63, 1);
-    show_net(b"256 active, 255 counted", crowd(256));
-    show_net(b"255 active, 255 counted", crowd(255));
-    show_net(b"2 active at 1 thread", crowded());
-    show_net(b"a waiting call that may go", idle());
+fn broken_counts(rt: &HostRuntime) {
+    show_count(rt, b"a count too low", 0, 0, 0);
+    show_count(rt, b"a count too high", 1, 0, 2);
+    show_count(rt, b"a count above the threads", 0, 1, 1);
+    show_count(rt, b"a count at no site", 15, 63, 1);
+    show_net(rt, b"256 active, 255 counted", crowd(256));
+    show_net(rt, b"255 active, 255 counted", crowd(255));
+    show_net(rt, b"2 active at 1 thread", crowded());
+    show_net(rt, b"a waiting call that may go", idle());
 }
 
 // A broken net is refused as such, whatever else is wrong with the command.
-fn broken_first() {
+fn broken_first(rt: &HostRuntime) {
     let net = crowded();
-    try_start(net, 0, 2);
-    try_call(net, 0, 0, 255);
-    try_return(net, 0);
-    try_ask(net, 0);
-    try_room(net, 200, 255);
+    try_start(rt, net, 0, 2);
+    try_call(rt, net, 0, 0, 255);
+    try_return(rt, net, 0);
+    try_ask(rt, net, 0);
+    try_room(rt, net, 200, 255);
 }
 
 // Nets that break no rule, though a plan's check or a reader might stumble.
-fn sound_nets() {
-    show_net(b"sound", sound_net());
-    show_net(b"spare places filled", spare_filled());
-    show_plan(b"a loop in the plan", plan_with_edge(1, 1));
-    show_net(b"its own parent by such an edge", own_parent());
-    show_plan(b"a plan that goes round", plan_round());
+fn sound_nets(rt: &HostRuntime) {
+    show_net(rt, b"sound", sound_net());
+    show_net(rt, b"spare places filled", spare_filled());
+    show_plan(rt, b"a loop in the plan", plan_with_edge(1, 1));
+    show_net(rt, b"its own parent by such an edge", own_parent());
+    show_plan(rt, b"a plan that goes round", plan_round());
 }
 
 // A command leaves the same net whatever stood in the spare places.
-fn show_cleared() {
+fn show_cleared(rt: &HostRuntime) {
     let one = net::start(sound_net(), Ticket(5), Node(0)).net;
     let other = net::start(spare_filled(), Ticket(5), Node(0)).net;
     if same_nets(one, other) {
-        say(b"spare places after a start: cleared\n");
+        say(rt, b"spare places after a start: cleared\n");
     } else {
-        say(b"spare places after a start: left\n");
+        say(rt, b"spare places after a start: left\n");
     }
 }
 
 // Each refusal of a start, alone and before those that come behind it.
-fn refused_starts() {
+fn refused_starts(rt: &HostRuntime) {
     let net = sound_net();
-    try_start(net, 0, 0);
-    try_start(net, 0, 2);
-    try_start(net, 3, 0);
-    try_start(net, 3, 2);
-    try_start(net, 5, 2);
-    try_start(net, 5, 64);
-    try_start(net, 5, 255);
-    let last = try_start(net, 65535, 1);
-    try_ask(last, 65535);
+    try_start(rt, net, 0, 0);
+    try_start(rt, net, 0, 2);
+    try_start(rt, net, 3, 0);
+    try_start(rt, net, 3, 2);
+    try_start(rt, net, 5, 2);
+    try_start(rt, net, 5, 64);
+    try_start(rt, net, 5, 255);
+    let last = try_start(rt, net, 65535, 1);
+    try_ask(rt, last, 65535);
 }
 
-fn refused_calls() {
+fn refused_calls(rt: &HostRuntime) {
     let net = sound_net();
-    try_call(net, 1, 0, 1);
-    try_call(net, 9, 0, 2);
-    try_call(net, 1, 2, 1);
-    try_call(net, 2, 2, 2);
-    try_call(net, 0, 5, 1);
-    try_call(net, 9, 5, 1);
-    try_call(net, 5, 5, 1);
-    try_call(net, 9, 5, 2);
-    try_call(net, 4, 5, 1);
-    try_call(net, 3, 5, 1);
-    try_call(net, 4, 5, 2);
+    try_call(rt, net, 1, 0, 1);
+    try_call(rt, net, 9, 0, 2);
+    try_call(rt, net, 1, 2, 1);
+    try_call(rt, net, 2, 2, 2);
+    try_call(rt, net, 0, 5, 1);
+    try_call(rt, net, 9, 5, 1);
+    try_call(rt, net, 5, 5, 1);
+    try_call(rt, net, 9, 5, 2);
+    try_call(rt, net, 4, 5, 1);
+    try_call(rt, net, 3, 5, 1);
+    try_call(rt, net, 4, 5, 2);
 }
 
-fn refused_edges() {
+fn refused_edges(rt: &HostRuntime) {
     let net = sound_net();
-    try_call(net, 1, 5, 2);
-    try_call(net, 2, 5, 64);
-    try_call(net, 2, 5, 255);
-    try_call(net, 1, 5, 0);
-    try_call(net, 2, 5, 1);
-    try_call(net, 1, 65535, 1);
+    try_call(rt, net, 1, 5, 2);
+    try_call(rt, net, 2, 5, 64);
+    try_call(rt, net, 2, 5, 255);
+    try_call(rt, net, 1, 5, 0);
+    try_call(rt, net, 2, 5, 1);
+    try_call(rt, net, 1, 65535, 1);
 }
 
-fn refused_returns() {
+fn refused_returns(rt: &HostRuntime) {
     let net = sound_net();
-    try_return(net, 0);
-    try_return(net, 9);
-    try_return(net, 65535);
-    try_return(net, 3);
-    try_return(net, 1);
-    try_return(net, 2);
+    try_return(rt, net, 0);
+    try_return(rt, net, 9);
+    try_return(rt, net, 65535);
+    try_return(rt, net, 3);
+    try_return(rt, net, 1);
+    try_return(rt, net, 2);
 }
 
-fn questions() {
+fn questions(rt: &HostRuntime) {
     let net = sound_net();
-    try_ask(net, 2);
-    try_ask(net, 4);
-    try_ask(net, 0);
-    try_ask(net, 9);
-    try_room(net, 0, 0);
-    try_room(net, 0, 1);
-    try_room(net, 1, 255);
-    try_room(net, 2, 0);
-    try_room(net, 16, 0);
-    try_room(net, 200, 0);
-    try_room(net, 255, 255);
+    try_ask(rt, net, 2);
+    try_ask(rt, net, 4);
+    try_ask(rt, net, 0);
+    try_ask(rt, net, 9);
+    try_room(rt, net, 0, 0);
+    try_room(rt, net, 0, 1);
+    try_room(rt, net, 1, 255);
+    try_room(rt, net, 2, 0);
+    try_room(rt, net, 16, 0);
+    try_room(rt, net, 200, 0);
+    try_room(rt, net, 255, 255);
 }
 
 // The sound net with waiting calls at node 1 up to 256.
 fn full_net() -> Net {
     let mut net = sound_net();
-    let mut ticket = 5;
-    while ticket <= 256 {
+    for ticket in 5..257 {
         net = net::start(net, Ticket(ticket), Node(1)).net;
-        ticket += 1;
     }
     net
 }
 
-fn full_commands() {
+fn full_commands(rt: &HostRuntime) {
     let net = full_net();
-    try_start(net, 0, 2);
-    try_start(net, 256, 1);
-    try_start(net, 257, 2);
-    try_start(net, 257, 1);
-    try_call(net, 4, 257, 1);
-    try_call(net, 1, 257, 2);
-    try_call(net, 1, 257, 0);
-    try_call(net, 1, 257, 1);
-    let after = try_return(net, 2);
-    let again = try_start(after, 257, 1);
-    try_start(again, 258, 1);
+    try_start(rt, net, 0, 2);
+    try_start(rt, net, 256, 1);
+    try_start(rt, net, 257, 2);
+    try_start(rt, net, 257, 1);
+    try_call(rt, net, 4, 257, 1);
+    try_call(rt, net, 1, 257, 2);
+    try_call(rt, net, 1, 257, 0);
+    try_call(rt, net, 1, 257, 1);
+    let after = try_return(rt, net, 2);
+    let again = try_start(rt, after, 257, 1);
+    try_start(rt, again, 258, 1);
 }
 
 // The number of a plan's first fault, or 0.
@@ -544,34 +541,34 @@ fn fault(plan: Plan) -> u64 {
 }
 
 // A plan's fault, the refusal of the net that is to be made from it, and the net that comes all the same.
-fn show_made(words: &[u8], plan: Plan) {
+fn show_made(rt: &HostRuntime, words: &[u8], plan: Plan) {
     let made = net::make(plan);
     let net = made.net;
-    say(words);
-    say_item(b": fault ", fault(plan));
-    say_item(b", refusal ", made.refusal as u64);
-    say_item(b", rule ", net::check(net) as u64);
-    say_item(b", open ", net.used as u64);
+    say(rt, words);
+    say_item(rt, b": fault ", fault(plan));
+    say_item(rt, b", refusal ", made.refusal as u64);
+    say_item(rt, b", rule ", net::check(net) as u64);
+    say_item(rt, b", open ", net.used as u64);
     let kept = net.plan;
     if same_plans(kept, record::empty()) {
-        say(b", empty plan\n");
+        say(rt, b", empty plan\n");
     } else {
-        say_item(b", edges ", kept.edges as u64);
-        say(b"\n");
+        say_item(rt, b", edges ", kept.edges as u64);
+        say(rt, b"\n");
     }
 }
 
-fn makings() {
-    show_made(b"a sound plan", small_plan());
-    show_made(b"an edge twice", plan_with_edge(0, 1));
-    show_made(b"65 threads", plan_with_threads(65));
-    show_made(b"a node at no site", plan_with_node(2, 0));
-    show_made(b"an edge to no node", plan_with_edge(0, 2));
-    show_made(b"a level at the threads", plan_with_node(1, 1));
-    show_made(b"a loop", plan_with_edge(1, 1));
-    show_made(b"a plan that goes round", plan_round());
-    show_made(b"257 edges", plan_with_edges(257));
-    show_made(b"the empty plan", record::empty());
+fn makings(rt: &HostRuntime) {
+    show_made(rt, b"a sound plan", small_plan());
+    show_made(rt, b"an edge twice", plan_with_edge(0, 1));
+    show_made(rt, b"65 threads", plan_with_threads(65));
+    show_made(rt, b"a node at no site", plan_with_node(2, 0));
+    show_made(rt, b"an edge to no node", plan_with_edge(0, 2));
+    show_made(rt, b"a level at the threads", plan_with_node(1, 1));
+    show_made(rt, b"a loop", plan_with_edge(1, 1));
+    show_made(rt, b"a plan that goes round", plan_round());
+    show_made(rt, b"257 edges", plan_with_edges(257));
+    show_made(rt, b"the empty plan", record::empty());
 }
 
 // The plan of the program case: one site of 3 threads, nodes 0, 1 and 2 at the levels 0, 1 and 2.
@@ -586,47 +583,47 @@ fn case_plan() -> Plan {
     plan
 }
 
-fn program_case() {
+fn program_case(rt: &HostRuntime) {
     let net = net::make(case_plan()).net;
-    let one = try_start(net, 1, 0);
-    let two = try_start(one, 2, 1);
-    let three = try_start(two, 3, 1);
-    let four = try_return(three, 1);
-    let five = try_start(four, 4, 2);
-    let six = try_return(five, 2);
-    try_ask(six, 4);
+    let one = try_start(rt, net, 1, 0);
+    let two = try_start(rt, one, 2, 1);
+    let three = try_start(rt, two, 3, 1);
+    let four = try_return(rt, three, 1);
+    let five = try_start(rt, four, 4, 2);
+    let six = try_return(rt, five, 2);
+    try_ask(rt, six, 4);
 }
 
 // Call 4 has waited longest, but its level 2 stays full until call 1 returns.
-fn service() {
+fn service(rt: &HostRuntime) {
     let net = net::make(case_plan()).net;
-    let one = try_start(net, 1, 2);
-    let two = try_start(one, 2, 0);
-    let three = try_start(two, 3, 0);
-    let four = try_start(three, 4, 2);
-    let five = try_start(four, 5, 0);
-    let six = try_return(five, 2);
-    let seven = try_start(six, 6, 0);
-    let eight = try_return(seven, 1);
-    try_ask(eight, 6);
+    let one = try_start(rt, net, 1, 2);
+    let two = try_start(rt, one, 2, 0);
+    let three = try_start(rt, two, 3, 0);
+    let four = try_start(rt, three, 4, 2);
+    let five = try_start(rt, four, 5, 0);
+    let six = try_return(rt, five, 2);
+    let seven = try_start(rt, six, 6, 0);
+    let eight = try_return(rt, seven, 1);
+    try_ask(rt, eight, 6);
 }
 
-fn main() {
-    broken_plans();
-    broken_tickets();
-    broken_nodes();
-    broken_parents();
-    broken_counts();
-    broken_first();
-    sound_nets();
-    show_cleared();
-    refused_starts();
-    refused_calls();
-    refused_edges();
-    refused_returns();
-    questions();
-    full_commands();
-    makings();
-    program_case();
-    service();
+fn main(rt: HostRuntime) {
+    broken_plans(&rt);
+    broken_tickets(&rt);
+    broken_nodes(&rt);
+    broken_parents(&rt);
+    broken_counts(&rt);
+    broken_first(&rt);
+    sound_nets(&rt);
+    show_cleared(&rt);
+    refused_starts(&rt);
+    refused_calls(&rt);
+    refused_edges(&rt);
+    refused_returns(&rt);
+    questions(&rt);
+    full_commands(&rt);
+    makings(&rt);
+    program_case(&rt);
+    service(&rt);
 }
