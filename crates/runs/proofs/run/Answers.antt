@@ -1,13 +1,13 @@
 -- `runs::run` meets its contract. The loop's invariant: the run went some commands far, the arrays hold the net behind them and the text their lines. The
 -- measure is the bytes left. Assumes nothing.
-use Prim.Native.Nat.{◌+◌, ◌-◌, ◌≤◌}
+use Prim.Native.Nat.{◌+◌, ◌≤◌}
 use mathlib.Core.Path.{refl, sym, ◌∙◌}
 use native.Mathlib.Omega.{arith}
 use lib.ListN.{length}
 use Rattle.text.specs.Room.{line_room}
 use Rattle.text.proofs.PutLaws.{put_long}
 use Rattle.runs.specs.Went.{full}
-use Rattle.runs.proofs.WentLaws.{begins, goes_on, behind_inside, count_inside, no_whole}
+use Rattle.runs.proofs.WentLaws.{begins, goes_on, behind_inside, count_inside}
 use Rattle.runs.proofs.run.Goals as goal
 
 pub loop-text-init : goal.loop-text-init
