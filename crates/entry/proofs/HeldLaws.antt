@@ -9,7 +9,6 @@ use Rattle.lists.specs.Pick.{tell}
 use Rattle.lists.specs.Tabled.{tabled}
 use Rattle.lists.proofs.CountLaws.{denied}
 use Rattle.lists.proofs.PickLaws.{all_at}
-use Rattle.model.specs.Plan.{threads}
 use Rattle.model.specs.PlanValue.{records_of}
 use Rattle.model.specs.Net.{Call, has_node}
 use Rattle.model.specs.NetRules.{parent_kept, could_go, all_lawful}

@@ -1,5 +1,4 @@
 -- `entry::prepare` meets its contract: the parts one behind the other, and behind them all the arrays hold the net. Assumes nothing.
-use Rattle.model.proofs.HeldLaws.{Sized}
 use Rattle.entry.proofs.HeldLaws.{runs}
 use borrow.Author.Rules.{rules}
 use Rattle.entry.proofs.prepare.Goals as goal

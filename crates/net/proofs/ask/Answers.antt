@@ -1,9 +1,6 @@
 -- `net::ask` meets its contract: 19 where a rule is broken; else what stands at the place that the search answers. Assumes nothing.
 use Prim.Native.Nat.{◌<◌}
 use native.Mathlib.Omega.{arith}
-use mathlib.Core.Path.{◌≡◌, sym, ◌∙◌}
-use lib.ListN.{length, length-map}
-use Rattle.value.specs.contracts.Call as call-type
 use Rattle.net.proofs.AnsweredLaws.{broken-asked, few, asked_nobody, asked-active, asked_waiting}
 use borrow.Author.Rules.{rules}
 use Rattle.net.proofs.ask.Goals as goal

@@ -1,6 +1,6 @@
 -- `net::command` meets its contract: 19 where a rule is broken; else the arrays hold the net, and what they hold behind the command is handed
 -- back. Assumes nothing.
-use mathlib.Core.Path.{◌≡◌, sym}
+use mathlib.Core.Path.{◌≡◌}
 use lib.ListN.{length}
 use Rattle.turns.proofs.AnswerLaws.{command_stepped}
 use Rattle.entry.proofs.FreshLaws.{fresh}

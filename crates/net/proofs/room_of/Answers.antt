@@ -1,6 +1,6 @@
 -- `net::room_of` meets its contract: a number is a room, and nothing else is. Assumes nothing.
 use mathlib.Core.Path.{sym, ◌∙◌}
-use Rattle.net.proofs.RoomLaws.{no_letter, no_level, number_room, refused_room}
+use Rattle.net.proofs.RoomLaws.{number_room, refused_room}
 use Rattle.net.proofs.room_of.Goals as goal
 
 pub returns-in-Number : goal.returns-in-Number

@@ -36,7 +36,7 @@ loop-text-preserved c =
     let ok = c.requires in
     let written = (c.loop-text.invariant ok.0 ok.1).written in
     let line_fits : c.loop-text.to + line_room ≤ length c.args.text.now =
-            omega (arith, written.inside, put_long written, c.if-text-to-lt-LINE.false) in
+    omega (arith, written.inside, put_long written, c.if-text-to-lt-LINE.false) in
     λ first run.
     let here = c.loop-text.invariant first run in
     goes_on _ _ here line_fits (sym c.in-Whole.is ∙ c.next_request-found.ensures) (c.turn-turned.ensures here.net here.runs_on)

@@ -1,6 +1,6 @@
 -- `transcript::run` meets its contract: 19 where a rule is broken; else the arrays hold the net, the run goes over them, and what they hold behind it is packed.
 -- Assumes nothing.
-use mathlib.Core.Path.{◌≡◌, sym}
+use mathlib.Core.Path.{◌≡◌}
 use lib.ListN.{length}
 use Rattle.entry.proofs.FreshLaws.{fresh}
 use Rattle.transcript.proofs.RanLaws.{refused_run, ran_on, run_packing}
