@@ -14,6 +14,7 @@ use links::Rows;
 use model::Plan;
 
 // Whether a path may step from n to m: they stand at one site, and m's level is no higher.
+#[tactic(auto, unfolding(crate::specs::Within::steps_in))]
 fn steps_down<'a>(places: &'a [u8], levels: &'a [u8], n: usize, m: usize) -> bool
     requires { StepAsked places.now levels.now n m }
     ensures { result ≡ steps_in places.now levels.now n m }
