@@ -60,7 +60,7 @@ module _ (p : Plan) where
       go true = omega arith
       go false = omega arith
 
-  edge_most : (i : ℕ) → length (added (edge_at p.callers p.callees i)) ≤ 3
+  edge_most : (i : ℕ) → length (added (edge_at p.pairs i)) ≤ 3
   unfolding bytes_of
   edge_most i = omega arith
 
@@ -74,7 +74,7 @@ module _ (p : Plan) where
         ap (λ (rs : List Record). length (records_bytes rs)) (records_each p),
         each_most (site_at p.threads) [] 3 site_most sites,
         each_most (node_at p.places p.levels) (its_sites p) 4 node_most nodes,
-        each_most (edge_at p.callers p.callees) (its_nodes p) 3 edge_most count,
+        each_most (edge_at p.pairs) (its_nodes p) 3 edge_most count,
       )
 
 -- The length by counts
@@ -105,7 +105,7 @@ edges-held p = ap edges (records_each p) ∙ all (min p.edges most_edges)
         each_skip edges (node_at p.places p.levels) nodes (its_sites p) (λ i qs l. no_node i qs (somewhere (get_or p.places i nowhere)))
         ∙ each_skip edges (site_at p.threads) sites [] (λ i qs l. no_site i qs (eqb (get_or p.threads i 0) 0))
 
-    all : (k : ℕ) → edges (each (edge_at p.callers p.callees) k (its_nodes p)) ≡ k
+    all : (k : ℕ) → edges (each (edge_at p.pairs) k (its_nodes p)) ≡ k
     all zero = yet
     all (suc k) = ap suc (all k)
 

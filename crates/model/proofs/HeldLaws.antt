@@ -14,7 +14,7 @@ use borrow.Author.Tests.{eqb-true, eq-eqb, ne_eqb}
 use Rattle.lists.proofs.CountLaws.{lt_or_ge}
 use Rattle.ids.specs.Limits.{sites, nodes, most_edges}
 use Rattle.model.specs.Plan.{Record, site, node, edge, Place, push, threads, place, present, has_edge}
-use Rattle.model.specs.PlanValue.{nowhere, somewhere, each, site_at, node_at, edge_at, edge_records, records_of, held}
+use Rattle.model.specs.PlanValue.{nowhere, somewhere, each, site_at, node_at, pair_at, edge_at, edge_records, records_of, held}
 use Rattle.model.specs.declared.Plan.{Plan}
 
 -- Lengths
@@ -23,8 +23,7 @@ pub record Sized (p : Plan) : Type 0 where
   pub threads : length p.threads ≡ sites
   pub places : length p.places ≡ nodes
   pub levels : length p.levels ≡ nodes
-  pub callers : length p.callers ≡ most_edges
-  pub callees : length p.callees ≡ most_edges
+  pub pairs : length p.pairs ≡ most_edges
 
 -- Enumerations: a record or none for each number below k, the latest first
 
@@ -80,7 +79,7 @@ module _ (p : Plan) where
   abbrev pub its_nodes : List Record
   its_nodes = each (node_at p.places p.levels) nodes its_sites
 
-  pub records_each : records_of p ≡ each (edge_at p.callers p.callees) (min p.edges most_edges) its_nodes
+  pub records_each : records_of p ≡ each (edge_at p.pairs) (min p.edges most_edges) its_nodes
   unfolding records_of
   records_each = refl
 
@@ -89,8 +88,8 @@ module _ (p : Plan) where
     past-edges : ((c d : ℕ) (qs : List Record) → look (edge c d ∷ qs) ≡ look qs) → look (records_of p) ≡ look its_nodes
     past-edges h =
         ap look records_each
-        ∙ each_skip look (edge_at p.callers p.callees) (min p.edges most_edges) its_nodes
-        (λ i qs l. h (get_or p.callers i 0) (get_or p.callees i 0) qs)
+        ∙ each_skip look (edge_at p.pairs) (min p.edges most_edges) its_nodes
+        (λ i qs l. h (pair_at p.pairs i).caller.0 (pair_at p.pairs i).callee.0 qs)
 
     past-nodes : ((n s l : ℕ) (qs : List Record) → look (node n s l ∷ qs) ≡ look qs) → look its_nodes ≡ look its_sites
     past-nodes h =
@@ -106,13 +105,13 @@ module _ (p : Plan) where
         (λ i qs l. skip_none look qs (site i (get_or p.threads i 0)) (h i (get_or p.threads i 0) qs) (eqb (get_or p.threads i 0) 0))
 
   -- the call edges are those of the edge records
-  pub calls_of : (c d : ℕ) → has_edge (records_of p) c d ≡ has_edge (edge_records p.callers p.callees (min p.edges most_edges) []) c d
+  pub calls_of : (c d : ℕ) → has_edge (records_of p) c d ≡ has_edge (edge_records p.pairs (min p.edges most_edges) []) c d
   unfolding has_edge records_of
   calls_of c d = go (min p.edges most_edges)
     where
-      go : (k : ℕ) → has_edge (edge_records p.callers p.callees k its_nodes) c d ≡ has_edge (edge_records p.callers p.callees k []) c d
+      go : (k : ℕ) → has_edge (edge_records p.pairs k its_nodes) c d ≡ has_edge (edge_records p.pairs k []) c d
       go zero = past-nodes (λ qs. has_edge qs c d) (λ n s l qs. refl) ∙ past-sites (λ qs. has_edge qs c d) (λ s t qs. refl)
-      go (suc k) = ap (λ (t : Bool). (eqb (get_or p.callers k 0) c && eqb (get_or p.callees k 0) d) || t) (go k)
+      go (suc k) = ap (λ (t : Bool). (eqb (pair_at p.pairs k).caller.0 c && eqb (pair_at p.pairs k).callee.0 d) || t) (go k)
 
   module _ (sized : Sized p) where
     -- the threads of a site

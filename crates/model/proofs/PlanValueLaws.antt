@@ -13,7 +13,8 @@ use borrow.Author.Tests.{eqb-true, eqb-false, ne_eqb}
 use Rattle.ids.specs.Limits.{sites, most_threads, nodes, most_edges}
 use Rattle.model.specs.Plan.{Record, site, node, edge, edges_of, threads, Place, place, present, edges}
 use Rattle.model.specs.Records.{kind, RecordsOk}
-use Rattle.model.specs.PlanValue.{nowhere, somewhere, empty_plan, value, each, site_at, node_at, edge_at, records_of, held}
+use Rattle.model.specs.PlanValue.{nowhere, somewhere, pair, empty_plan, value, each, site_at, node_at, edge_at, records_of, held}
+use Rattle.model.specs.declared.Edge.{Edge}
 use Rattle.model.specs.declared.Plan.{Plan}
 use Rattle.model.proofs.KindLaws.{never_falls, within_kind, in_edges}
 use Rattle.model.proofs.RecordLaws.{threads-listed, place-listed, without_latest}
@@ -26,8 +27,7 @@ value_sized [] =
       threads = length-replicate {A = ℕ} sites 0;
       places = length-replicate {A = ℕ} nodes nowhere;
       levels = length-replicate {A = ℕ} nodes 0;
-      callers = length-replicate {A = ℕ} most_edges 0;
-      callees = length-replicate {A = ℕ} most_edges 0;
+      pairs = length-replicate {A = Edge} most_edges (pair 0 0);
     }
 value_sized (site s t ∷ rs) =
     let w = value_sized rs in
@@ -35,8 +35,7 @@ value_sized (site s t ∷ rs) =
       threads = length-set (value rs).threads s t ∙ w.threads;
       places = w.places;
       levels = w.levels;
-      callers = w.callers;
-      callees = w.callees;
+      pairs = w.pairs;
     }
 value_sized (node n s l ∷ rs) =
     let w = value_sized rs in
@@ -44,8 +43,7 @@ value_sized (node n s l ∷ rs) =
       threads = w.threads;
       places = length-set (value rs).places n s ∙ w.places;
       levels = length-set (value rs).levels n l ∙ w.levels;
-      callers = w.callers;
-      callees = w.callees;
+      pairs = w.pairs;
     }
 value_sized (edge c d ∷ rs) =
     let w = value_sized rs in
@@ -53,8 +51,7 @@ value_sized (edge c d ∷ rs) =
       threads = w.threads;
       places = w.places;
       levels = w.levels;
-      callers = length-set (value rs).callers (value rs).edges c ∙ w.callers;
-      callees = length-set (value rs).callees (value rs).edges d ∙ w.callees;
+      pairs = length-set (value rs).pairs (value rs).edges (pair c d) ∙ w.pairs;
     }
 
 pub edges-value : (rs : List Record) → (value rs).edges ≡ edges rs
@@ -76,7 +73,7 @@ no_edges rs h = go (edges_of rs) (λ e m. h e.0 e.1 (in_edges rs m))
 
 -- a value without edges, or without nodes as well
 only_nodes : (p : Plan) → p.edges ≡ 0 → records_of p ≡ its_nodes p
-only_nodes p e = records_each p ∙ ap (λ (k : ℕ). each (edge_at p.callers p.callees) (min k most_edges) (its_nodes p)) e
+only_nodes p e = records_each p ∙ ap (λ (k : ℕ). each (edge_at p.pairs) (min k most_edges) (its_nodes p)) e
 
 only_sites : (p : Plan) → p.edges ≡ 0 → ((n : ℕ) → somewhere (get_or p.places n nowhere) ≡ false) → records_of p ≡ its_sites p
 only_sites p e h = only_nodes p e ∙ each_skip (λ qs. qs) (node_at p.places p.levels) nodes (its_sites p) (λ i qs l. rw (h i))
@@ -167,20 +164,16 @@ one_more rs (node n s l) ok same =
     no_edge = edges_yet rs (node n s l) ok same (omega arith)
 one_more rs (edge c d) ok same =
     records_each (value (edge c d ∷ rs))
-    ∙ ap (λ (k : ℕ). each (edge_at (set cs e c) (set ds e d)) k (its_nodes (value rs))) next
+    ∙ ap (λ (k : ℕ). each (edge_at (set ps e (pair c d))) k (its_nodes (value rs))) next
     ∙ ap₂ ◌∷◌
-    (ap₂ edge (get_or-set_same cs e c 0 (omega (arith, room, (value_sized rs).callers))) (get_or-set_same ds e d 0 (omega (arith, room, (value_sized rs).callees))))
-    (each_same (edge_at cs ds) (edge_at (set cs e c) (set ds e d)) e (its_nodes (value rs))
-    (λ i l.
-    ap₂ (λ (x y : ℕ). some (edge x y)) (get_or-set_other cs e i c 0 (λ q. omega arith)) (get_or-set_other ds e i d 0 (λ q. omega arith))))
+    (ap (λ (x : Edge). edge x.caller.0 x.callee.0) (get_or-set_same ps e (pair c d) (pair 0 0) (omega (arith, room, (value_sized rs).pairs))))
+    (each_same (edge_at ps) (edge_at (set ps e (pair c d))) e (its_nodes (value rs))
+    (λ i l. ap (λ (x : Edge). some (edge x.caller.0 x.callee.0)) (get_or-set_other ps e i (pair c d) (pair 0 0) (λ q. omega arith))))
     ∙ ap (◌∷◌ (edge c d))
-    (ap (λ (k : ℕ). each (edge_at cs ds) k (its_nodes (value rs))) (sym this) ∙ sym (records_each (value rs)))
+    (ap (λ (k : ℕ). each (edge_at ps) k (its_nodes (value rs))) (sym this) ∙ sym (records_each (value rs)))
   where
-    cs : List ℕ
-    cs = (value rs).callers
-
-    ds : List ℕ
-    ds = (value rs).callees
+    ps : List Edge
+    ps = (value rs).pairs
 
     e : ℕ
     e = (value rs).edges

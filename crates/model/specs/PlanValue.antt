@@ -6,6 +6,7 @@ use Rattle.ids.specs.Limits.{sites, nodes, most_edges}
 use Rattle.ids.specs.Made.{Told}
 use Rattle.model.specs.Plan.{Record, site, node, edge, Place, push}
 use Rattle.model.specs.Reading.{Reading, accepted, refused_at}
+use Rattle.model.specs.declared.Edge.{Edge}
 use Rattle.model.specs.declared.Plan.{Plan}
 use Rattle.model.specs.declared.PlanRefusal.{PlanRefusal}
 use Rattle.model.specs.declared.ReadFault.{ReadFault}
@@ -17,27 +18,29 @@ nowhere = 255
 abbrev pub somewhere : ℕ → Bool
 somewhere place = not (eqb place nowhere)
 
+-- a call edge of the value, by its numbers
+abbrev pub pair : ℕ → ℕ → Edge
+pair c d = record { caller = record { 0 = c }; callee = record { 0 = d } }
+
 unfoldable pub empty_plan : Plan
 empty_plan =
     record {
       threads = replicate sites 0;
       places = replicate nodes nowhere;
       levels = replicate nodes 0;
-      callers = replicate most_edges 0;
-      callees = replicate most_edges 0;
+      pairs = replicate most_edges (pair 0 0);
       edges = 0;
     }
 
 abbrev pub stored : Plan → Record → Plan
 stored p (site s t) =
-    record { threads = set p.threads s t; places = p.places; levels = p.levels; callers = p.callers; callees = p.callees; edges = p.edges }
+    record { threads = set p.threads s t; places = p.places; levels = p.levels; pairs = p.pairs; edges = p.edges }
 stored p (node n s l) =
     record {
       threads = p.threads;
       places = set p.places n s;
       levels = set p.levels n l;
-      callers = p.callers;
-      callees = p.callees;
+      pairs = p.pairs;
       edges = p.edges;
     }
 stored p (edge c d) =
@@ -45,8 +48,7 @@ stored p (edge c d) =
       threads = p.threads;
       places = p.places;
       levels = p.levels;
-      callers = set p.callers p.edges c;
-      callees = set p.callees p.edges d;
+      pairs = set p.pairs p.edges (pair c d);
       edges = p.edges + 1;
     }
 
@@ -95,8 +97,11 @@ site_at threads s = cond (eqb (get_or threads s 0) 0) none (some (site s (get_or
 abbrev pub node_at : List ℕ → List ℕ → ℕ → Option Record
 node_at places levels n = cond (somewhere (get_or places n nowhere)) (some (node n (get_or places n nowhere) (get_or levels n 0))) none
 
-abbrev pub edge_at : List ℕ → List ℕ → ℕ → Option Record
-edge_at callers callees i = some (edge (get_or callers i 0) (get_or callees i 0))
+abbrev pub pair_at : List Edge → ℕ → Edge
+pair_at pairs i = get_or pairs i (pair 0 0)
+
+abbrev pub edge_at : List Edge → ℕ → Option Record
+edge_at pairs i = some (edge (pair_at pairs i).caller.0 (pair_at pairs i).callee.0)
 
 abbrev pub site_records : List ℕ → ℕ → List Record
 site_records threads k = each (site_at threads) k []
@@ -104,12 +109,12 @@ site_records threads k = each (site_at threads) k []
 abbrev pub node_records : List ℕ → List ℕ → ℕ → List Record → List Record
 node_records places levels k rs = each (node_at places levels) k rs
 
-abbrev pub edge_records : List ℕ → List ℕ → ℕ → List Record → List Record
-edge_records callers callees k rs = each (edge_at callers callees) k rs
+abbrev pub edge_records : List Edge → ℕ → List Record → List Record
+edge_records pairs k rs = each (edge_at pairs) k rs
 
 unfoldable pub records_of : Plan → List Record
 records_of p =
-    edge_records p.callers p.callees (min p.edges most_edges)
+    edge_records p.pairs (min p.edges most_edges)
     (node_records p.places p.levels nodes (site_records p.threads sites))
 
 -- a node's site and level in a plan's value, where it has a record there

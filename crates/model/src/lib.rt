@@ -50,6 +50,13 @@ impl From<SiteRefused> for RoomRefused {
     }
 }
 
+// A call edge.
+#[derive(Clone, Copy, PartialEq, Eq, PartialOrd, Ord)]
+pub struct Edge {
+    pub caller: Node,
+    pub callee: Node,
+}
+
 // A plan by its numbers: the threads of each site, 0 where it has no record; the site of each node, `Plan::NOWHERE` where it has no record (any
 // other number is a record, also where it is no site), and its level; and the call edges in their order. What no record has set is as in the empty plan.
 #[derive(Clone, Copy)]
@@ -57,8 +64,7 @@ pub struct Plan {
     pub threads: [u8; Site::COUNT],
     pub places: [u8; Node::COUNT],
     pub levels: [u8; Node::COUNT],
-    pub callers: [u8; Node::EDGES],
-    pub callees: [u8; Node::EDGES],
+    pub pairs: [Edge; Node::EDGES],
     pub edges: usize,
 }
 
