@@ -70,6 +70,8 @@ pub struct Plan {
 
 impl Plan {
     pub const NOWHERE: u8 = 255;
+    // The bytes of the longest file: 3 for each site and edge, 4 for each node, and the end record.
+    pub const FILE: usize = 3 * Site::COUNT + 4 * Node::COUNT + 3 * Node::EDGES + 1;
 }
 
 // A record of a plan file.

@@ -9,7 +9,7 @@ ghost use Rattle.record.specs.Step.{body_told, record_of, next_in, follows_last,
 ghost use Rattle.record.specs.Whole.{WholeFault};
 
 use ids::{Level, Node, Site};
-use model::{Plan, PlanRecord, PlanRefusal};
+use model::{Edge, Plan, PlanRecord, PlanRefusal};
 
 // A record of a plan file, and the offset behind it.
 #[derive(Clone, Copy)]
@@ -23,12 +23,15 @@ pub struct Found {
 pub fn empty() -> Plan
     ensures { result ≡ empty_plan }
 {
+    let no_pair = Edge {
+        caller: Node(0),
+        callee: Node(0),
+    };
     Plan {
         threads: [0; Site::COUNT],
         places: [Plan::NOWHERE; Node::COUNT],
         levels: [0; Node::COUNT],
-        callers: [0; Node::EDGES],
-        callees: [0; Node::EDGES],
+        pairs: [no_pair; Node::EDGES],
         edges: 0,
     }
 }
@@ -190,8 +193,7 @@ pub fn store_in(plan: &mut Plan, next: PlanRecord)
         PlanRecord::Edge(caller, callee) => {
             let at = plan.edges;
             if at < Node::EDGES {
-                plan.callers[at] = caller.0;
-                plan.callees[at] = callee.0;
+                plan.pairs[at] = Edge { caller, callee };
                 plan.edges = at + 1;
             }
         }
