@@ -13,7 +13,7 @@ use Rattle.ids.specs.Limits.{sites, most_threads, nodes, most_edges}
 use Rattle.lists.specs.Count.{every}
 use Rattle.model.specs.Plan.{Record, site, node, edge, push, threads, place, present, edges, follows, in_range, known, level_below, room_for}
 use Rattle.model.specs.Plan.{six, record_fault, passes}
-use Rattle.model.specs.PlanValue.{nowhere, somewhere, each, site_at, node_at, edge_at, records_of}
+use Rattle.model.specs.PlanValue.{pair_at, nowhere, somewhere, each, site_at, node_at, edge_at, records_of}
 use Rattle.model.specs.declared.Plan.{Plan}
 use Rattle.model.proofs.HeldLaws.{Sized, each_skip, its_sites, its_nodes, records_each, threads_of, place_of, present-held}
 use Rattle.record.specs.Step.{listed_node}
@@ -130,7 +130,7 @@ module _ (p : Plan) where
   nodes_below n = each (node_at p.places p.levels) n (its_sites p)
 
   abbrev edges_below : ℕ → List Record
-  edges_below i = each (edge_at p.callers p.callees) i (its_nodes p)
+  edges_below i = each (edge_at p.pairs) i (its_nodes p)
 
   -- the next one follows them
 
@@ -151,9 +151,9 @@ module _ (p : Plan) where
       let So : List Record → Type 0 = λ qs. follows qs (edge c d) ≡ true in
       nodes-keep So p.places p.levels nodes (its_sites p) (sites-keep So p.threads sites refl (λ i u qs m so. refl)) (λ i r k qs m so. refl)
 
-  edge_follows : (i : ℕ) → follows (edges_below i) (edge (get_or p.callers i 0) (get_or p.callees i 0)) ≡ pair_fits p.callers p.callees i
+  edge_follows : (i : ℕ) → follows (edges_below i) (edge (pair_at p.pairs i).caller.0 (pair_at p.pairs i).callee.0) ≡ pair_fits p.pairs i
   unfolding follows
-  edge_follows zero = first-follows (get_or p.callers 0 0) (get_or p.callees 0 0)
+  edge_follows zero = first-follows (pair_at p.pairs 0).caller.0 (pair_at p.pairs 0).callee.0
   edge_follows (suc i) = refl
 
   -- there are as many edges as were counted
@@ -188,7 +188,7 @@ module _ (p : Plan) where
         to-edges : threads (records_of p) s ≡ threads (its_nodes p) s
         to-edges =
             ap (λ qs. threads qs s) (records_each p)
-            ∙ each_skip (λ qs. threads qs s) (edge_at p.callers p.callees) (min p.edges most_edges) (its_nodes p) (λ i qs l. refl)
+            ∙ each_skip (λ qs. threads qs s) (edge_at p.pairs) (min p.edges most_edges) (its_nodes p) (λ i qs l. refl)
 
     node_there : (i n : ℕ) → present (place (edges_below i) n) ≡ listed_node p.places n
     unfolding place
@@ -196,7 +196,7 @@ module _ (p : Plan) where
         ap present (passed i ∙ sym (ap (λ qs. place qs n) (records_each p) ∙ passed (min p.edges most_edges)) ∙ place_of p sized n) ∙ present-held p n
       where
         passed : (k : ℕ) → place (edges_below k) n ≡ place (its_nodes p) n
-        passed k = each_skip (λ qs. place qs n) (edge_at p.callers p.callees) k (its_nodes p) (λ i qs l. refl)
+        passed k = each_skip (λ qs. place qs n) (edge_at p.pairs) k (its_nodes p) (λ i qs l. refl)
 
     -- so the nodes' and the edges' pass where their entries fit
 
@@ -210,19 +210,19 @@ module _ (p : Plan) where
         node_test (nodes_below n) pass n s k (get_or p.threads s 0) l (node_follows n s k) (threads_there n s))
 
     edges_pass : (count : ℕ) → count ≤ most_edges
-        → passes six (edges_below count) ≡ (passes six (its_nodes p) && edges_fit p.places p.callers p.callees count)
+        → passes six (edges_below count) ≡ (passes six (its_nodes p) && edges_fit p.places p.pairs count)
     unfolding edges_fit edge_fits
     edges_pass count few =
-        each-passes (edge_at p.callers p.callees) (edge_fits p.places p.callers p.callees) (its_nodes p) count
+        each-passes (edge_at p.pairs) (edge_fits p.places p.pairs) (its_nodes p) count
         (λ i l pass.
-        let c = get_or p.callers i 0 in
-        let d = get_or p.callees i 0 in
+        let c = (pair_at p.pairs i).caller.0 in
+        let d = (pair_at p.pairs i).callee.0 in
         edge_test (edges_below i) pass c d _ _ _ (node_there i c) (node_there i d) (edge_follows i) (omega (arith, edges_so_far i)))
 
     -- in the order of the code
     module _ (few : p.edges ≤ most_edges) where
       pub records-pass-is : records_pass p
-          ≡ ((sites_fit p.threads && nodes_fit p.threads p.places p.levels) && edges_fit p.places p.callers p.callees p.edges)
+          ≡ ((sites_fit p.threads && nodes_fit p.threads p.places p.levels) && edges_fit p.places p.pairs p.edges)
       unfolding records_pass
       records-pass-is =
           let count : min p.edges most_edges ≡ p.edges = omega arith in

@@ -14,7 +14,7 @@ use mathlib.Core.Bool.{Bool, true, false}
 use Rattle.ids.specs.Limits.{sites, nodes, most_edges}
 use Rattle.lists.proofs.CountLaws.{get_or_inside}
 use Rattle.model.specs.Plan.{Record, push, site, node, edge, six}
-use Rattle.model.specs.PlanValue.{nowhere, empty_plan, value, refusal_number, each, site_at, node_at, edge_at, records_of}
+use Rattle.model.specs.PlanValue.{pair_at, nowhere, empty_plan, value, refusal_number, each, site_at, node_at, edge_at, records_of}
 use Rattle.model.specs.PlanFault.{records_fault}
 use Rattle.model.specs.declared.Plan.{Plan}
 use Rattle.model.specs.declared.PlanRecord.{PlanRecord}
@@ -117,7 +117,7 @@ module _ (p : Plan) where
 
   pub edges_late : (why : PlanRefusal) → Taken (nodes_to p nodes) (Err why) → Taken (edges_to p p.edges) (Err why)
   unfolding edges_to
-  edges_late why so = so ∙ sym (fault_stays (edge_at p.callers p.callees) (nodes_to p nodes) p.edges (λ z. (refusal_named why).1 (so ∙ z)))
+  edges_late why so = so ∙ sym (fault_stays (edge_at p.pairs) (nodes_to p nodes) p.edges (λ z. (refusal_named why).1 (so ∙ z)))
 
   pub edges-all : (r : Result Audit PlanRefusal) → p.edges ≤ most_edges → Taken (edges_to p p.edges) r → Taken (records_of p) r
   unfolding edges_to nodes_to sites_to records_of
@@ -171,14 +171,14 @@ module _ (p : Plan) where
 
   module _ (i : ℕ) (old : Audit) (so : Taken (edges_to p i) (Ok old)) where
     abbrev edge_here : Record
-    edge_here = edge (get_or p.callers i 0) (get_or p.callees i 0)
+    edge_here = edge (pair_at p.pairs i).caller.0 (pair_at p.pairs i).callee.0
 
     pub edge_refused : i < p.edges → (why : PlanRefusal) → refusal_number why ≡ over old.plan old.last (of_record edge_here)
         → Taken (edges_to p p.edges) (Err why)
     unfolding edges_to
-    edge_refused l why told = one_refused (edge_at p.callers p.callees) (nodes_to p nodes) i old so edge_here refl p.edges l why told
+    edge_refused l why told = one_refused (edge_at p.pairs) (nodes_to p nodes) i old so edge_here refl p.edges l why told
 
     pub edge_taken : (new : Audit) → 0 ≡ over old.plan old.last (of_record edge_here) → new.plan ≡ stored_in old.plan (of_record edge_here)
         → new.last ≡ of_record edge_here → Taken (edges_to p (i + 1)) (Ok new)
     unfolding edges_to
-    edge_taken new told plan last = one_taken (edge_at p.callers p.callees) (nodes_to p nodes) i old so edge_here refl new told plan last
+    edge_taken new told plan last = one_taken (edge_at p.pairs) (nodes_to p nodes) i old so edge_here refl new told plan last

@@ -24,4 +24,4 @@ unfoldable pub nodes_to : Plan → ℕ → List Record
 nodes_to p n = node_records p.places p.levels n (sites_to p sites)
 
 unfoldable pub edges_to : Plan → ℕ → List Record
-edges_to p i = edge_records p.callers p.callees i (nodes_to p nodes)
+edges_to p i = edge_records p.pairs i (nodes_to p nodes)

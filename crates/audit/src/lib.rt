@@ -80,9 +80,8 @@ fn take_records(plan: &Plan) -> Result<Audit, PlanRefusal>
 {
     let mut audit = take_nodes(plan)?;
     for i in 0..plan.edges {
-        let caller = Node(plan.callers[i]);
-        let callee = Node(plan.callees[i]);
-        audit.take(PlanRecord::Edge(caller, callee))?;
+        let pair = plan.pairs[i];
+        audit.take(PlanRecord::Edge(pair.caller, pair.callee))?;
     }
     Ok(audit)
 }
@@ -114,28 +113,33 @@ fn nodes_pass(plan: &Plan) -> bool
 // Whether the pair at a place rises from the one before it.
 fn pair_fits(plan: &Plan, i: usize) -> bool
     requires { i < most_edges }
-    ensures { result ≡ pair_fits plan.now.callers plan.now.callees i }
+    ensures { result ≡ pair_fits plan.now.pairs i }
 {
-    i == 0 || (plan.callers[i - 1], plan.callees[i - 1]) < (plan.callers[i], plan.callees[i])
+    i == 0 || plan.pairs[i - 1] < plan.pairs[i]
 }
 
 // Whether an edge is between nodes that have records, and its pair rises.
 #[tactic(auto, unfolding(crate::specs::Fits::edge_fits))]
 fn edge_fits(plan: &Plan, i: usize) -> bool
     requires { i < most_edges }
-    ensures { result ≡ edge_fits plan.now.places plan.now.callers plan.now.callees i }
+    ensures { result ≡ edge_fits plan.now.places plan.now.pairs i }
 {
-    record::has_node(&plan.places, Node(plan.callers[i]))
-        && record::has_node(&plan.places, Node(plan.callees[i]))
+    record::has_node(&plan.places, plan.pairs[i].caller)
+        && record::has_node(&plan.places, plan.pairs[i].callee)
         && pair_fits(plan, i)
 }
 
 // The same of all edges.
 fn edges_pass(plan: &Plan) -> bool
     requires { plan.now.edges ≤ most_edges }
-    ensures { result ≡ edges_fit plan.now.places plan.now.callers plan.now.callees plan.now.edges }
+    ensures { result ≡ edges_fit plan.now.places plan.now.pairs plan.now.edges }
 {
-    (0..plan.edges).all(|i| edge_fits(plan, i))
+    for i in 0..plan.edges {
+        if !edge_fits(plan, i) {
+            return false;
+        }
+    }
+    true
 }
 
 // Whether a plan's count of edges has places and its records pass the checks on single records: what a net asks of its plan. The arrays are looked at

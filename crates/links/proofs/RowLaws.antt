@@ -13,7 +13,8 @@ use borrow.Author.Tests.{eqb-true, eqb-false, ne_eqb}
 use Rattle.ids.specs.Limits.{nodes, most_edges}
 use Rattle.lists.proofs.CountLaws.{lt_or_ge, true_or_false}
 use Rattle.model.specs.Plan.{has_edge}
-use Rattle.model.specs.PlanValue.{edge_records, records_of}
+use Rattle.model.specs.PlanValue.{pair_at, edge_records, records_of}
+use Rattle.model.specs.declared.Edge.{Edge}
 use Rattle.model.specs.declared.Plan.{Plan}
 use Rattle.model.proofs.HeldLaws.{calls_of}
 use Rattle.words.specs.Words.{member, inserted}
@@ -57,25 +58,25 @@ link_pair rows from to word more long inside n m hn hm = go (true_or_false (eqb 
 
 -- The call edges
 
-pub no_links : (rows cs ds : List ℕ) → rows ≡ replicate nodes 0 → RowsTell rows (has_edge (edge_records cs ds 0 []))
+pub no_links : (rows : List ℕ) (ps : List Edge) → rows ≡ replicate nodes 0 → RowsTell rows (has_edge (edge_records ps 0 []))
 unfolding has_edge linked
-no_links rows cs ds e n m hn hm =
+no_links rows ps e n m hn hm =
     ap (λ (l : List ℕ). member (get_or l n 0) m) e ∙ ap (λ (w : ℕ). member w m) (get_or-replicate nodes n 0 0 hn) ∙ member_zero m
 
-pub links_more : (rows next cs ds : List ℕ) (i : ℕ) → RowsTell rows (has_edge (edge_records cs ds i []))
-    → RowsTell next (λ n m. (eqb (get_or cs i 0) n && eqb (get_or ds i 0) m) || linked rows n m) → RowsTell next (has_edge (edge_records cs ds (i + 1) []))
+pub links_more : (rows next : List ℕ) (ps : List Edge) (i : ℕ) → RowsTell rows (has_edge (edge_records ps i []))
+    → RowsTell next (λ n m. (eqb (pair_at ps i).caller.0 n && eqb (pair_at ps i).callee.0 m) || linked rows n m) → RowsTell next (has_edge (edge_records ps (i + 1) []))
 unfolding has_edge
-links_more rows next cs ds i so_far turn n m hn hm =
+links_more rows next ps i so_far turn n m hn hm =
     rw (add-one i)
-    (turn n m hn hm ∙ ap (λ (t : Bool). (eqb (get_or cs i 0) n && eqb (get_or ds i 0) m) || t) (so_far n m hn hm))
+    (turn n m hn hm ∙ ap (λ (t : Bool). (eqb (pair_at ps i).caller.0 n && eqb (pair_at ps i).callee.0 m) || t) (so_far n m hn hm))
 
 -- the loop's invariant: the first i edges are in
 pub record Linking (p : Plan) (rows : List ℕ) (i : ℕ) : Type 0 where
-  pub done : RowsTell rows (has_edge (edge_records p.callers p.callees i []))
+  pub done : RowsTell rows (has_edge (edge_records p.pairs i []))
   pub within_count : i ≤ min p.edges most_edges
   pub whole : length rows ≡ nodes
 
-pub links_all : (p : Plan) (rows : List ℕ) (i : ℕ) → i ≡ min p.edges most_edges → RowsTell rows (has_edge (edge_records p.callers p.callees i []))
+pub links_all : (p : Plan) (rows : List ℕ) (i : ℕ) → i ≡ min p.edges most_edges → RowsTell rows (has_edge (edge_records p.pairs i []))
     → RowsTell rows (has_edge (records_of p))
 links_all p rows i e so n m hn hm =
-    so n m hn hm ∙ ap (λ (k : ℕ). has_edge (edge_records p.callers p.callees k []) n m) e ∙ sym (calls_of p n m)
+    so n m hn hm ∙ ap (λ (k : ℕ). has_edge (edge_records p.pairs k []) n m) e ∙ sym (calls_of p n m)

@@ -46,7 +46,7 @@ pub fn call_rows(plan: Plan) -> Rows
     let count = placed(plan.edges);
     let mut i = 0;
     while i < count {
-        link(&mut rows, plan.callers[i], plan.callees[i]);
+        link(&mut rows, plan.pairs[i].caller.0, plan.pairs[i].callee.0);
         i += 1;
     }
     Rows { rows }

@@ -6,14 +6,14 @@ use Rattle.links.proofs.call_rows.Goals as goal
 
 pub loop-i-init : goal.loop-i-init
 loop-i-init c = let p = c.args.plan in
-    (record { done = no_links _ p.callers p.callees refl; within_count = omega arith; whole = refl }, c.placed-count.ensures)
+    (record { done = no_links _ p.pairs refl; within_count = omega arith; whole = refl }, c.placed-count.ensures)
 
 pub loop-i-preserved : goal.loop-i-preserved
 loop-i-preserved c = let p = (c.args.plan) in
     let so_far = c.loop-i.invariant.0 in (
       record {
         done =
-            links_more c.loop-i.rows c.link.new.rows p.callers p.callees c.loop-i.i so_far.done c.link.ensures;
+            links_more c.loop-i.rows c.link.new.rows p.pairs c.loop-i.i so_far.done c.link.ensures;
         within_count = omega (arith, c.loop-i-test.true, c.loop-i.invariant.1);
         whole = omega (arith, so_far, c.link.auto.rows);
       },
