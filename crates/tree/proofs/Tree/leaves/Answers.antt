@@ -1,5 +1,5 @@
--- `tree::leaves` meets its contract. The loop's invariant: the leaves of the levels below k are set, and `left` is what level k could have at
--- most, as it is stored. Assumes nothing.
+-- `Tree::leaves` meets its contract. The loop's invariant: the leaves of the levels below k are set.
+-- Assumes nothing.
 use Prim.Native.Nat.{ℕ, ◌+◌, ◌-◌}
 use native.Mathlib.Omega.{arith}
 use mathlib.Core.Path.{◌≡◌, ap}
@@ -7,10 +7,13 @@ use lib.ListN.{get_or}
 use Rattle.ids.specs.Limits.{most_threads}
 use Rattle.lists.proofs.FillLaws.{filled_more}
 use Rattle.tree.proofs.StoredLaws.{count_most}
-use Rattle.tree.proofs.leaves.Goals as goal
+use Rattle.tree.proofs.Tree.leaves.Goals as goal
 
-pub overflow_sub-slacks : goal.overflow_sub-slacks
-overflow_sub-slacks c = omega (arith, count_most c.args.threads c.args.counts.now c.requires.0 c.loop-k.k)
+pub overflow_sub-self : goal.overflow_sub-self
+overflow_sub-self c = omega (arith, count_most c.args.threads c.args.counts.now c.requires c.loop-k.k)
+
+pub overflow_sub-self-in-loop-k : goal.overflow_sub-self-in-loop-k
+overflow_sub-self-in-loop-k c = omega (arith, count_most c.args.threads c.args.counts.now c.requires c.loop-k.k)
 
 pub loop-k-preserved : goal.loop-k-preserved
 loop-k-preserved c = let a = c.args.counts.now in
@@ -20,8 +23,6 @@ loop-k-preserved c = let a = c.args.counts.now in
     let place : k ≡ most_threads + k - most_threads = omega arith in
     let same = ap (λ (m : ℕ). get_or a m 0) place in
     record {
-      below = omega arith;
-      left_is = omega arith;
       sized = filled_more _ most_threads (most_threads + k) _ _ _ _ next (omega arith) (omega arith) same set.sized;
       slacked = filled_more _ most_threads (most_threads + k) _ _ _ _ next (omega arith) (omega arith) (omega arith) set.slacked;
     }
