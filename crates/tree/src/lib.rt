@@ -84,16 +84,6 @@ struct Tree {
 }
 
 impl Tree {
-    // No place has a call or a limit.
-    fn fresh() -> Tree
-        ensures { Fresh result.sizes result.slacks }
-    {
-        Tree {
-            sizes: [0; PLACES],
-            slacks: [NO_LIMIT; PLACES],
-        }
-    }
-
     // Sets the leaves of the levels below `threads`.
     fn leaves(&mut self, threads: usize, counts: &[u8])
         requires { TreeCounts threads counts.now }
@@ -121,22 +111,20 @@ impl Tree {
         }
     }
 
-    // The tree of these counts. Places whose levels are all at or above `threads` keep size 0 and no limit.
-    fn build(threads: usize, counts: &[u8]) -> Tree
-        requires { TreeCounts threads counts.now }
-        ensures { Built root_height threads counts.now result.sizes result.slacks }
+    // Builds the tree in place, where no place has a call or a limit. Places whose levels are all at or above `threads` keep size 0 and no limit.
+    fn build(&mut self, threads: usize, counts: &[u8])
+        requires { TreeCounts threads counts.now × Fresh self.old.sizes self.old.slacks }
+        ensures { Built root_height threads counts.now self.new.sizes self.new.slacks }
     {
-        let mut tree = Tree::fresh();
-        tree.leaves(threads, counts);
+        self.leaves(threads, counts);
         let mut first = Site::THREADS;
         let mut end = Site::THREADS + threads;
         // kept: two numbers are halved from row to row, so that no range gives them.
         while ROOT < first {
             first /= 2;
             end = (end + 1) / 2;
-            tree.join(first, end);
+            self.join(first, end);
         }
-        tree
     }
 
     // The walk from place n on, `height` above the leaves, with the calls to its right carried.
@@ -173,7 +161,11 @@ pub fn descend(threads: usize, counts: &[u8]) -> Result<Walked, SiteRefused>
     if !countable(threads, counts) {
         return Err(SiteRefused);
     }
-    let tree = Tree::build(threads, counts);
+    let mut tree = Tree {
+        sizes: [0; PLACES],
+        slacks: [NO_LIMIT; PLACES],
+    };
+    tree.build(threads, counts);
     let root = tree.slacks[ROOT];
     if root < NO_SLACK {
         return Err(SiteRefused);

@@ -10,11 +10,11 @@ pub returns-then-not-countable : goal.returns-then-not-countable
 returns-then-not-countable c = uncounted_refused _ _ (λ k. never_both (c.countable.ensures.1 k) c.if-not-countable.true)
 
 pub returns-then-root-lt-NO_SLACK : goal.returns-then-root-lt-NO_SLACK
-returns-then-root-lt-NO_SLACK c = root_refuses _ _ (c.countable.ensures.0 c.if-not-countable.false) _ _ c.build-tree.ensures c.if-root-lt-NO_SLACK.true
+returns-then-root-lt-NO_SLACK c = root_refuses _ _ (c.countable.ensures.0 c.if-not-countable.false) _ _ c.build.ensures c.if-root-lt-NO_SLACK.true
 
 pub returns-then-root-gt-NO_SLACK : goal.returns-then-root-gt-NO_SLACK
-returns-then-root-gt-NO_SLACK c = root_stays _ _ (c.countable.ensures.0 c.if-not-countable.false) _ _ c.build-tree.ensures c.if-root-lt-NO_SLACK.false c.if-root-gt-NO_SLACK.true
+returns-then-root-gt-NO_SLACK c = root_stays _ _ (c.countable.ensures.0 c.if-not-countable.false) _ _ c.build.ensures c.if-root-lt-NO_SLACK.false c.if-root-gt-NO_SLACK.true
 
 pub returns : goal.returns
 returns c = ap Ok c.walk.ensures
-    ∙ root_walks _ _ (c.countable.ensures.0 c.if-not-countable.false) _ _ c.build-tree.ensures c.if-root-lt-NO_SLACK.false c.if-root-gt-NO_SLACK.false
+    ∙ root_walks _ _ (c.countable.ensures.0 c.if-not-countable.false) _ _ c.build.ensures c.if-root-lt-NO_SLACK.false c.if-root-gt-NO_SLACK.false

@@ -4,7 +4,7 @@ use Rattle.tree.proofs.BuildLaws.{Growing}
 use Rattle.tree.proofs.Tree.build.Given as goal
 
 abbrev pub invariant-loop-first : goal.invariant-loop-first
-invariant-loop-first l = Growing l.threads l.counts l.tree.sizes l.tree.slacks l.first l.end
+invariant-loop-first l = Growing l.threads l.counts l.self.sizes l.self.slacks l.first l.end
 
 abbrev pub decreases-loop-first : goal.decreases-loop-first
 decreases-loop-first l = l.first
