@@ -42,6 +42,10 @@ reaching_none rows from small =
       todo_small = small;
     }
 
+-- the node that is looked at next is one
+pub next_inside : {rows : List ℕ} {from found todo next : ℕ} → next ≡ least todo → (todo ≡ 0 → ⊥) → Reaching rows from found todo → next < nodes
+next_inside {todo = todo} e some so_far = omega (arith, (least_inside todo so_far.todo_small (omega arith)).0)
+
 -- One turn: the least node that is to be looked at, and what its row has that was not found
 module _ (rows : List ℕ) (from found todo : ℕ) (some : 0 < todo) (row_small : get_or rows (least todo) 0 < 2 ^ nodes)
     (so_far : Reaching rows from found todo) where

@@ -1,6 +1,5 @@
 -- What is reached over the rows of a relation, and when an edge is closed backwards. Assumes nothing.
-use Rattle.std.specs.Prelude.{ℕ, ◌≡◌, List, T, length}
-use Rattle.ids.specs.Limits.{nodes}
+use Rattle.std.specs.Prelude.{ℕ, List, T}
 use Rattle.model.specs.Graph.{Reach}
 use Rattle.words.specs.Words.{member}
 use Rattle.links.specs.Rows.{linked}
@@ -13,8 +12,3 @@ pub record ReachedFrom (rows : List ℕ) (from all : ℕ) : Type 0 where
 -- some edge is closed backwards by a path
 abbrev pub ClosedBack : List ℕ → List ℕ → Type 0
 ClosedBack edges paths = (n : ℕ) × (m : ℕ) × T (linked edges n m) × Reach (linked paths) m n
-
--- rows that are lent: a word for each node
-pub record TwoRows (edges paths : List ℕ) : Type 0 where
-  pub edge_rows : length edges ≡ nodes
-  pub path_rows : length paths ≡ nodes

@@ -70,12 +70,6 @@ links_more rows next ps i so_far turn n m hn hm =
     rw (add-one i)
     (turn n m hn hm ∙ ap (λ (t : Bool). (eqb (pair_at ps i).caller.0 n && eqb (pair_at ps i).callee.0 m) || t) (so_far n m hn hm))
 
--- the loop's invariant: the first i edges are in
-pub record Linking (p : Plan) (rows : List ℕ) (i : ℕ) : Type 0 where
-  pub done : RowsTell rows (has_edge (edge_records p.pairs i []))
-  pub within_count : i ≤ min p.edges most_edges
-  pub whole : length rows ≡ nodes
-
 pub links_all : (p : Plan) (rows : List ℕ) (i : ℕ) → i ≡ min p.edges most_edges → RowsTell rows (has_edge (edge_records p.pairs i []))
     → RowsTell rows (has_edge (records_of p))
 links_all p rows i e so n m hn hm =

@@ -255,7 +255,6 @@ module _ (T : ℕ) (a : List ℕ) (ok : TreeCounts T a) (first end : ℕ) (row :
     unfolding P
     can_join =
         record {
-          arrays = record { sizes_long = sized.long; slacks_long = slacked.long };
           rising = omega (arith, end_above);
           inside = omega (arith, next_end, first_most);
           small = λ n from to.
@@ -290,7 +289,6 @@ grown_whole {T} {a} {sizes} {slacks} {first} small g = go g.row.rest g.row.first
     go zero e h =
         let six : g.row.height ≡ root_height = omega arith in
         record {
-          arrays = record { sizes_long = g.sized.long; slacks_long = g.slacked.long };
           size_at = subst (λ (n : ℕ). NodesStand n (size a) sizes) six g.sized.stands;
           slack_at = subst (λ (n : ℕ). NodesStand n (slack_byte T a) slacks) six g.slacked.stands;
         }

@@ -9,13 +9,14 @@ use borrow.Author.Tests.{eq-eqb, ne_eqb, eqb-true}
 use mathlib.Core.Path.{◌≡◌, sym, ap, ap₂, ◌∙◌}
 use mathlib.Core.Bool.{Bool, true, false, cond}
 use mathlib.Core.List.{List}
+use Rattle.std.specs.Prelude.{Result, Ok, Err}
+use Rattle.model.specs.declared.SiteRefused.{SiteRefused}
 use Rattle.ids.specs.Limits.{most_threads}
 use Rattle.lists.proofs.CountLaws.{not_false_so, never_both, same_test}
 use Rattle.model.specs.Site.{lawful, refuses_site}
 use Rattle.model.specs.Tree.{Slack, no_limit, up_to, size, slack, is, walk, onward, from_root, root_height}
 use Rattle.model.proofs.SiteLaws.{Accepted, accepted, not_refused, lawful_at}
 use Rattle.model.specs.declared.Walked.{Walked}
-use Rattle.tree.specs.declared.Descent.{Descent}
 use Rattle.tree.specs.Descent.{descent}
 use Rattle.tree.specs.Places.{places, unlimited, no_slack, TreeCounts, slack_byte, first_level, Built, walk_in}
 use Rattle.tree.proofs.StoredLaws.{coded, size_most, stored-slack, root_lawful, root_unlawful}
@@ -31,23 +32,26 @@ coded_is (up_to s) x h =
 chosen : (b c : Bool) (v w v' w' : Walked) → b ≡ c → v ≡ v' → w ≡ w' → cond b (onward v) (onward w) ≡ cond c (onward v') (onward w')
 chosen b c v w v' w' p q r = cc
 
+abbrev refusal : Result Walked SiteRefused
+refusal = Err (record {})
+
 counted : {T : ℕ} {a : List ℕ} → Accepted T a → TreeCounts T a
 counted {T} {a} s =
     record { some = s.some; most = s.most; long = s.long; within = s.within; few = omega (arith, lawful_at T a s.law 0 s.some) }
 
-refuses : (T : ℕ) (a : List ℕ) → (Accepted T a → ⊥) → Descent.Refused ≡ descent T a
+refuses : (T : ℕ) (a : List ℕ) → (Accepted T a → ⊥) → refusal ≡ descent T a
 unfolding descent
 refuses T a f = rw (not_false_so (refuses_site T a) (λ e. f (accepted T a e)))
 
 -- where a tree cannot be built the site is refused
-pub uncounted_refused : (T : ℕ) (a : List ℕ) → (TreeCounts T a → ⊥) → Descent.Refused ≡ descent T a
+pub uncounted_refused : (T : ℕ) (a : List ℕ) → (TreeCounts T a → ⊥) → refusal ≡ descent T a
 uncounted_refused T a f = refuses T a (λ s. f (counted s))
 
 module _ (T : ℕ) (a : List ℕ) (ok : TreeCounts T a) (sizes slacks : List ℕ) (built : Built root_height T a sizes slacks) where
   root_stored : get_or slacks 1 0 ≡ slack_byte T a root_height 0
   root_stored = built.slack_at root_height 1 (omega arith) (omega arith) (omega arith)
 
-  pub root_refuses : get_or slacks 1 0 < no_slack → Descent.Refused ≡ descent T a
+  pub root_refuses : get_or slacks 1 0 < no_slack → refusal ≡ descent T a
   root_refuses h = refuses T a (λ s. never_both s.law (root_unlawful T a ok (omega (arith, root_stored))))
 
   module _ (enough : no_slack ≤ get_or slacks 1 0) where
@@ -90,13 +94,13 @@ module _ (T : ℕ) (a : List ℕ) (ok : TreeCounts T a) (sizes slacks : List ℕ
     root_test : eqb (get_or slacks 1 0) no_slack ≡ is (slack T a root_height 0) 0
     root_test = ap (λ (s : ℕ). eqb s no_slack) (root_stored ∙ stored-slack T a ok law root_height 0) ∙ coded_is (slack T a root_height 0) 0 (omega arith)
 
-    pub root_stays : no_slack < get_or slacks 1 0 → Descent.Ended (record { leaf = T; stood = 1 }) ≡ descent T a
+    pub root_stays : no_slack < get_or slacks 1 0 → Ok (record { leaf = T; stood = 1 }) ≡ descent T a
     unfolding descent from_root
     root_stays h = rw (admitted, sym root_test ∙ ne_eqb (get_or slacks 1 0) no_slack (λ e. omega arith))
 
-    pub root_walks : get_or slacks 1 0 ≤ no_slack → Descent.Ended (walk_in sizes slacks root_height 1 0) ≡ descent T a
+    pub root_walks : get_or slacks 1 0 ≤ no_slack → Ok (walk_in sizes slacks root_height 1 0) ≡ descent T a
     unfolding descent from_root
     root_walks h =
         rw (admitted, sym root_test ∙ eq-eqb (get_or slacks 1 0) no_slack (omega arith))
-        (ap Descent.Ended
+        (ap Ok
         (walks_tree root_height 1 0 (omega arith) (omega arith) (omega arith) (omega (arith, size_most T a ok root_height 0, ok.most))))

@@ -1,3 +1,4 @@
+mod CallLaws
 mod StoredLaws
 mod WalkLaws
 mod BuildLaws

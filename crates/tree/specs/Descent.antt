@@ -1,9 +1,10 @@
 -- What `tree` answers. Assumes nothing.
-use Rattle.std.specs.Prelude.{ℕ, cond, List}
+use Rattle.std.specs.Prelude.{ℕ, cond, List, Result, Ok, Err}
 use Rattle.model.specs.Site.{refuses_site}
 use Rattle.model.specs.Tree.{from_root}
-use Rattle.tree.specs.declared.Descent.{Descent}
+use Rattle.model.specs.declared.Walked.{Walked}
+use Rattle.model.specs.declared.SiteRefused.{SiteRefused}
 
 -- the walk from the root; "a refusal, with no level and no count"
-unfoldable pub descent : ℕ → List ℕ → Descent
-descent T a = cond (refuses_site T a) Descent.Refused (Descent.Ended (from_root T a))
+unfoldable pub descent : ℕ → List ℕ → Result Walked SiteRefused
+descent T a = cond (refuses_site T a) (Err (record {})) (Ok (from_root T a))

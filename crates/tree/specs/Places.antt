@@ -30,11 +30,6 @@ pub record Span (a : List ℕ) (from to : ℕ) : Type 0 where
   pub inside : to ≤ most_threads
   pub long : length a ≡ most_threads
 
--- a byte for each place
-pub record TreeArrays (sizes slacks : List ℕ) : Type 0 where
-  pub sizes_long : length sizes ≡ places
-  pub slacks_long : length slacks ≡ places
-
 -- the arrays before the tree is built
 pub record Fresh (sizes slacks : List ℕ) : Type 0 where
   pub no_size : sizes ≡ replicate places 0
@@ -56,7 +51,6 @@ NodesStand most number cells =
 
 -- the tree nodes up to a height stand in the arrays
 pub record Built (most T : ℕ) (a sizes slacks : List ℕ) : Type 0 where
-  pub arrays : TreeArrays sizes slacks
   pub size_at : NodesStand most (size a) sizes
   pub slack_at : NodesStand most (slack_byte T a) slacks
 
@@ -76,7 +70,6 @@ pair_slack sizes slacks n = min (get_or slacks (2 * n + 1) 0) (get_or slacks (2 
 
 -- a row of places that can be made: the halves of each have sizes that add up within a byte, and the left slack covers the right size
 pub record RowJoinable (sizes slacks : List ℕ) (first end : ℕ) : Type 0 where
-  pub arrays : TreeArrays sizes slacks
   pub rising : first ≤ end
   pub inside : end ≤ most_threads
   pub small : (n : ℕ) → first ≤ n → n < end → pair_size sizes n < 256
@@ -84,7 +77,6 @@ pub record RowJoinable (sizes slacks : List ℕ) (first end : ℕ) : Type 0 wher
 
 -- a place to walk on from, and no more calls to its right than a walk can carry
 pub record Walkable (sizes slacks : List ℕ) (height n carried : ℕ) : Type 0 where
-  pub arrays : TreeArrays sizes slacks
   pub high : height ≤ root_height
   pub from : most_threads ≤ n * 2 ^ height
   pub to : (n + 1) * 2 ^ height ≤ places

@@ -1,4 +1,5 @@
 // A set of nodes in one word: node n is in it where bit n is set.
+// kept: functions on a plain u64 and no type of its own: rows are arrays of words, and a row of reached nodes is stepped through by its trailing zeros.
 #![tactic(auto)]
 
 ghost use Rattle.std.specs.Prelude.{◌≡◌};
@@ -30,7 +31,7 @@ pub fn with(word: u64, n: u8) -> u64
 pub fn lowest(word: u64) -> usize
     ensures { result ≡ least word }
 {
-    u64::trailing_zeros(word) as usize
+    word.trailing_zeros() as usize
 }
 
 // The set without its least node.

@@ -1,10 +1,8 @@
 -- `book::admission_level` meets its contract: a refused walk gets 255, and otherwise the walk ends at the firmware's number.
 -- Assumes nothing.
-use Rattle.book.proofs.BookLaws.{firmware_refused, firmware_walked}
+use Rattle.std.proofs.Common.{rules}
+use Rattle.book.proofs.BookLaws.{firmware_told}
 use Rattle.book.proofs.admission_level.Goals as goal
 
-pub returns-in_default : goal.returns-in_default
-returns-in_default c = firmware_refused _ _ c.in_default.ensures
-
 pub returns : goal.returns
-returns c = firmware_walked _ _ _ c.in-Ended.ensures
+returns c = firmware_told _ _ c.descend.result _ c.descend.ensures (search rules)

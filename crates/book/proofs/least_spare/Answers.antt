@@ -26,7 +26,7 @@ loop-k-preserved c = let ok = c.requires in
     let low : c.loop-k.k < c.args.wanted = omega arith in (
       omega arith,
       counted_up ok _ _ low c.loop-k.invariant.1,
-      smallest_up ok _ _ low c.loop-k.invariant.1 _ _ c.loop-k.invariant.2 c.smaller-least.ensures,
+      smallest_up ok _ _ low c.loop-k.invariant.1 _ _ c.loop-k.invariant.2 c.min-least.ensures,
     )
 
 pub overflow_cast-result : goal.overflow_cast-result

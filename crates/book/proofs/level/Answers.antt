@@ -1,15 +1,12 @@
 -- `book::level` meets its contract: a refused walk gets the refusal, and otherwise the walk's end is the level plus 1. Assumes nothing.
-use Prim.Native.Nat.{ℕ}
-use mathlib.Core.Path.{ap, sym, ◌∙◌}
-use mathlib.Core.List.{[], ◌∷◌}
-use Rattle.book.proofs.BookLaws.{level_refused, level_walked, level_highest}
+use Rattle.std.proofs.Common.{rules}
+use Rattle.std.proofs.lemmas.Result.{err_from_is_err_and}
+use Rattle.book.proofs.BookLaws.{level_refused, level_highest}
 use Rattle.book.proofs.level.Goals as goal
 
-pub returns-in_default : goal.returns-in_default
-returns-in_default c = level_refused _ _ c.in_default.ensures
-
-pub returns-then-walked-eq0 : goal.returns-then-walked-eq0
-returns-then-walked-eq0 c = ap (λ (l : ℕ). 0 ∷ l ∷ c.in-Ended.walked.stood ∷ []) (sym c.if-walked-eq0.true) ∙ level_walked _ _ _ c.in-Ended.ensures
+pub returns-in_err-walked : goal.returns-in_err-walked
+returns-in_err-walked c = let p = err_from_is_err_and c.from_residual.result c.from_residual.ensures.1 in
+    rw p.1 (level_refused _ _ _ c.in_err-walked.ensures)
 
 pub returns : goal.returns
-returns c = level_highest _ _ _ c.in-Ended.ensures c.if-walked-eq0.false
+returns c = level_highest _ _ _ c.in_ok-walked.ensures _ _ c.checked_sub.ensures (search rules)

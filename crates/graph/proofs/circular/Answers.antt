@@ -6,27 +6,21 @@ use Rattle.lists.proofs.CountLaws.{never_both}
 use Rattle.graph.proofs.ReachLaws.{NotClosed, closed_here, open_here, none_closed}
 use Rattle.graph.proofs.circular.Goals as goal
 
-pub loop-n-init : goal.loop-n-init
-loop-n-init c = ((λ i h. absurd (omega arith)), omega arith)
-
-pub bounds-edges-n : goal.bounds-edges-n
-bounds-edges-n c = omega (arith, c.requires.edge_rows)
-
 pub returns-then-has : goal.returns-then-has
 returns-then-has c = let a = c.args in
     let found =
-    closed_here a.edges.now a.paths.now c.loop-n.n c.reached.result c.reached.ensures
+    closed_here a.edges.now.rows a.paths.now.rows c.loop-n.n c.reached.result c.reached.ensures
     (sym c.has.ensures ∙ c.if-has.true) in
     ((λ e. found), (λ w. refl))
 
 pub loop-n-preserved : goal.loop-n-preserved
 loop-n-preserved c = let a = c.args in
     let here =
-    open_here a.edges.now a.paths.now c.loop-n.n c.reached.result c.reached.ensures
+    open_here a.edges.now.rows a.paths.now.rows c.loop-n.n c.reached.result c.reached.ensures
     (sym c.has.ensures ∙ c.if-has.false) in
-    (below_more (NotClosed a.edges.now a.paths.now) c.loop-n.n c.loop-n.invariant.0 here, omega arith)
+    below_more (NotClosed a.edges.now.rows a.paths.now.rows) c.loop-n.n c.loop-n.invariant here
 
 pub returns : goal.returns
 returns c = let a = c.args in
-    let never = none_closed a.edges.now a.paths.now c.requires.edge_rows (λ n h. c.loop-n.invariant.0 n (omega arith)) in
+    let never = none_closed a.edges.now.rows a.paths.now.rows (omega arith) (λ n h. c.loop-n.invariant n (omega arith)) in
     ((λ e. absurd (never_both e refl)), (λ w. absurd (never w)))

@@ -1,13 +1,7 @@
--- `tree::calls_in` meets its contract. The loop's invariant: the sum so far and the calls from level k on are those from the start on.
--- Assumes nothing.
-use native.Mathlib.Numerals.{add-one}
+-- `tree::calls_in` meets its contract: the levels from `from` on are cut in two at `to`. Assumes nothing.
 use native.Mathlib.Omega.{arith}
-use mathlib.Core.Path.{ap}
-use Rattle.model.specs.Site.{A}
-use Rattle.model.proofs.SiteLaws.{A-step}
+use Rattle.tree.proofs.CallLaws.{calls_split}
 use Rattle.tree.proofs.calls_in.Goals as goal
 
-pub loop-k-preserved : goal.loop-k-preserved
-loop-k-preserved c = let a = c.args.counts.now in
-    let k = c.loop-k.k in
-    omega (arith, c.type_inv.counts k, A-step a k, ap (A a) (add-one k))
+pub returns : goal.returns
+returns c = omega (arith, c.total.ensures, calls_split c.args.counts.now c.args.from c.args.to c.requires.rising)

@@ -2,7 +2,7 @@
 -- site is lawful and where the walk ends. Assumes nothing.
 use mathlib.Core.Path.{ap, ◌∙◌}
 use Rattle.lists.proofs.CountLaws.{never_both}
-use Rattle.tree.specs.declared.Descent.{Descent}
+use Rattle.std.specs.Prelude.{Ok}
 use Rattle.tree.proofs.DescentLaws.{uncounted_refused, root_refuses, root_stays, root_walks}
 use Rattle.tree.proofs.descend.Goals as goal
 
@@ -16,5 +16,5 @@ pub returns-then-root-gt-NO_SLACK : goal.returns-then-root-gt-NO_SLACK
 returns-then-root-gt-NO_SLACK c = root_stays _ _ (c.countable.ensures.0 c.if-not-countable.false) _ _ c.build.ensures c.if-root-lt-NO_SLACK.false c.if-root-gt-NO_SLACK.true
 
 pub returns : goal.returns
-returns c = ap Descent.Ended c.walk.ensures
+returns c = ap Ok c.walk.ensures
     ∙ root_walks _ _ (c.countable.ensures.0 c.if-not-countable.false) _ _ c.build.ensures c.if-root-lt-NO_SLACK.false c.if-root-gt-NO_SLACK.false

@@ -1,18 +1,14 @@
--- `tree::build` meets its contract. The loop's invariant: the tree stands up to some height, whose places are those from `first` on.
+-- `Tree::build` meets its contract. The loop's invariant: the tree stands up to some height, whose places are those from `first` on.
 -- Assumes nothing.
-use native.Mathlib.Omega.{arith}
 use Rattle.lists.proofs.FillLaws.{filled_of}
-use Rattle.tree.proofs.BuildLaws.{growing_leaves, growing_more, grown_whole, can_join, end_most}
-use Rattle.tree.proofs.build.Goals as goal
+use Rattle.tree.proofs.BuildLaws.{growing_leaves, growing_more, grown_whole, can_join}
+use Rattle.tree.proofs.Tree.build.Goals as goal
 
 pub loop-first-init : goal.loop-first-init
 loop-first-init c = let set = c.leaves.ensures in
     growing_leaves c.args.threads c.args.counts.now c.requires.0 _ _
     (filled_of c.requires.1.no_size set.filled)
     (filled_of c.requires.1.no_limits set.filled_2)
-
-pub overflow_add-end-in-loop-first : goal.overflow_add-end-in-loop-first
-overflow_add-end-in-loop-first c = omega (arith, end_most c.args.threads c.args.counts.now c.requires.0 _ _ c.loop-first.invariant.row c.loop-first-test.true)
 
 pub join-requires : goal.join-requires
 join-requires c = let g = c.loop-first.invariant in

@@ -1,4 +1,4 @@
--- `tree::join` meets its contract. The loop's invariant: the places from `first` up to n are made from their halves, which lie at or behind n,
+-- `Tree::join` meets its contract. The loop's invariant: the places from `first` up to n are made from their halves, which lie at or behind n,
 -- so that no store has touched them. Assumes nothing.
 use Prim.Native.Nat.{ℕ, ◌+◌, ◌-◌, ◌*◌, min}
 use native.Mathlib.Omega.{arith}
@@ -6,8 +6,8 @@ use mathlib.Core.Path.{◌≡◌, refl, ap₂, ◌∙◌}
 use mathlib.Core.List.{List}
 use lib.ListN.{get_or}
 use Rattle.lists.proofs.FillLaws.{filled_more}
-use Rattle.tree.proofs.join.Invariants.{Made}
-use Rattle.tree.proofs.join.Goals as goal
+use Rattle.tree.proofs.Tree.join.Invariants.{Made}
+use Rattle.tree.proofs.Tree.join.Goals as goal
 
 -- what the halves of place n held at entry they hold still
 record Kept (sizes₀ slacks₀ sizes slacks : List ℕ) (n : ℕ) : Type 0 where
@@ -16,8 +16,8 @@ record Kept (sizes₀ slacks₀ sizes slacks : List ℕ) (n : ℕ) : Type 0 wher
   left_slack : get_or slacks (2 * n) 0 ≡ get_or slacks₀ (2 * n) 0
   right_slack : get_or slacks (2 * n + 1) 0 ≡ get_or slacks₀ (2 * n + 1) 0
 
-kept : {sizes₀ slacks₀ sizes slacks : List ℕ} {first end n : ℕ} → Made sizes₀ slacks₀ sizes slacks first end n → Kept sizes₀ slacks₀ sizes slacks n
-kept {sizes₀} {slacks₀} {sizes} {slacks} {first} {end} {n} made =
+kept : {sizes₀ slacks₀ sizes slacks : List ℕ} {first n : ℕ} → Made sizes₀ slacks₀ sizes slacks first n → Kept sizes₀ slacks₀ sizes slacks n
+kept {sizes₀} {slacks₀} {sizes} {slacks} {first} {n} made =
     record {
       left_size = made.sized.outside (2 * n) (λ p q. omega arith);
       right_size = made.sized.outside (2 * n + 1) (λ p q. omega arith);
@@ -29,11 +29,9 @@ pub loop-n-preserved : goal.loop-n-preserved
 loop-n-preserved c = let made = c.loop-n.invariant in
     let halves = kept c.loop-n.invariant in
     record {
-      from = omega arith;
-      to = omega arith;
-      sized = filled_more _ _ _ _ _ _ _ refl made.from (omega arith) (ap₂ ◌+◌ halves.left_size halves.right_size) made.sized;
+      sized = filled_more _ _ _ _ _ _ _ refl (omega arith) (omega arith) (ap₂ ◌+◌ halves.left_size halves.right_size) made.sized;
       slacked =
-          filled_more _ _ _ _ _ _ _ refl made.from (omega arith)
-          (c.smaller.ensures ∙ ap₂ min halves.right_slack (ap₂ ◌-◌ halves.left_slack halves.right_size))
+          filled_more _ _ _ _ _ _ _ refl (omega arith) (omega arith)
+          (c.min.ensures ∙ ap₂ min halves.right_slack (ap₂ ◌-◌ halves.left_slack halves.right_size))
           made.slacked;
     }
