@@ -1,50 +1,25 @@
 // The four numbers that the library keeps apart: a ticket, a node number, a site number and a level. Each limit stands once, with the
-// thing that it limits. A value of these types may hold any byte or word; a constructor is an aid that refuses a number out of range.
+// thing that it limits. A value of these types may hold any byte or word; a constructor is an aid that gives none for a number out of range.
 #![tactic(auto)]
 
 ghost use Rattle.std.specs.Prelude.{◌≡◌};
 ghost use Rattle.ids.specs.Made.{told_made_site, told_made_node, told_made_level, told_made_ticket, site_made, node_made, level_made, ticket_made};
 
 // "Sites are numbered 0 to 15".
-#[derive(Clone, Copy)]
+#[derive(Clone, Copy, PartialEq, Eq, PartialOrd, Ord)]
 pub struct Site(pub u8);
 
 // "Nodes are numbered 0 to 63".
-#[derive(Clone, Copy)]
+#[derive(Clone, Copy, PartialEq, Eq, PartialOrd, Ord)]
 pub struct Node(pub u8);
 
 // The paper's annotation: below the threads of its site.
-#[derive(Clone, Copy)]
+#[derive(Clone, Copy, PartialEq, Eq, PartialOrd, Ord)]
 pub struct Level(pub u8);
 
 // "Tickets are 1 to 65535; 0 means no ticket".
-#[derive(Clone, Copy)]
+#[derive(Clone, Copy, PartialEq, Eq, PartialOrd, Ord)]
 pub struct Ticket(pub u16);
-
-// What a constructor answers.
-#[derive(Clone, Copy)]
-pub enum MadeSite {
-    Made(Site),
-    Refused,
-}
-
-#[derive(Clone, Copy)]
-pub enum MadeNode {
-    Made(Node),
-    Refused,
-}
-
-#[derive(Clone, Copy)]
-pub enum MadeLevel {
-    Made(Level),
-    Refused,
-}
-
-#[derive(Clone, Copy)]
-pub enum MadeTicket {
-    Made(Ticket),
-    Refused,
-}
 
 impl Site {
     // How many sites there can be.
@@ -52,13 +27,13 @@ impl Site {
     // The most threads of a site, and so the number of levels.
     pub const THREADS: usize = 64;
 
-    pub fn new(number: u8) -> MadeSite
+    pub fn new(number: u8) -> Option<Site>
         ensures { told_made_site result ≡ site_made number }
     {
         if number as usize >= Site::COUNT {
-            return MadeSite::Refused;
+            return None;
         }
-        MadeSite::Made(Site(number))
+        Some(Site(number))
     }
 }
 
@@ -68,24 +43,24 @@ impl Node {
     // The most call edges between them.
     pub const EDGES: usize = 256;
 
-    pub fn new(number: u8) -> MadeNode
+    pub fn new(number: u8) -> Option<Node>
         ensures { told_made_node result ≡ node_made number }
     {
         if number as usize >= Node::COUNT {
-            return MadeNode::Refused;
+            return None;
         }
-        MadeNode::Made(Node(number))
+        Some(Node(number))
     }
 }
 
 impl Level {
-    pub fn new(number: u8) -> MadeLevel
+    pub fn new(number: u8) -> Option<Level>
         ensures { told_made_level result ≡ level_made number }
     {
         if number as usize >= Site::THREADS {
-            return MadeLevel::Refused;
+            return None;
         }
-        MadeLevel::Made(Level(number))
+        Some(Level(number))
     }
 }
 
@@ -95,12 +70,12 @@ impl Ticket {
     // The most open calls, each under a ticket of its own.
     pub const OPEN: usize = 256;
 
-    pub fn new(number: u16) -> MadeTicket
+    pub fn new(number: u16) -> Option<Ticket>
         ensures { told_made_ticket result ≡ ticket_made number }
     {
         if number == Ticket::NONE {
-            return MadeTicket::Refused;
+            return None;
         }
-        MadeTicket::Made(Ticket(number))
+        Some(Ticket(number))
     }
 }

@@ -3,50 +3,53 @@
 use mathlib.Core.Path.{◌≡◌, refl, ap, ap₂}
 use Prim.Native.Nat.{ℕ, suc}
 use native.Mathlib.Omega.{arith}
-use Rattle.model.specs.Answers.{told_level, told_admission, told_room}
+use Rattle.model.specs.Answers.{level_number, told_level, told_admission, told_room}
 use Rattle.model.specs.Command.{Answer, refused, active, waiting, ended, told, Standing, is-running, is-waiting, not_open, told_standing}
 use Rattle.model.specs.Command.{Roomed, has_room, room_refused, told_roomed}
-use Rattle.model.specs.declared.LevelAnswer.{LevelAnswer}
-use Rattle.model.specs.declared.AdmissionAnswer.{AdmissionAnswer}
-use Rattle.model.specs.declared.RoomAnswer.{RoomAnswer}
+use Rattle.std.specs.Prelude.{Option, Some, None, Result, Ok, Err}
+use Rattle.ids.specs.declared.Level.{Level}
+use Rattle.model.specs.declared.Highest.{Highest}
+use Rattle.model.specs.declared.SiteRefused.{SiteRefused}
+use Rattle.model.specs.declared.Admission.{Admission}
+use Rattle.model.specs.declared.RoomRefused.{RoomRefused}
 
-pub level_injective : (x y : LevelAnswer) → told_level x ≡ told_level y → x ≡ y
-level_injective (LevelAnswer.Highest l s) (LevelAnswer.Highest m t) e =
-    let p : suc l.0 ≡ suc m.0 = cc in
-    let q : l.0 ≡ m.0 = omega arith in
-    let r : s ≡ t = cc in
-    ap₂ (λ (n u : ℕ). LevelAnswer.Highest (record { 0 = n }) u) q r
-level_injective (LevelAnswer.Highest l s) (LevelAnswer.NoLevel t) e = let p : suc l.0 ≡ 0 = cc in absurd (omega arith)
-level_injective (LevelAnswer.Highest l s) LevelAnswer.Refused e = cc
-level_injective (LevelAnswer.NoLevel s) (LevelAnswer.Highest m t) e = let p : 0 ≡ suc m.0 = cc in absurd (omega arith)
-level_injective (LevelAnswer.NoLevel s) (LevelAnswer.NoLevel t) e = let r : s ≡ t = cc in ap LevelAnswer.NoLevel r
-level_injective (LevelAnswer.NoLevel s) LevelAnswer.Refused e = cc
-level_injective LevelAnswer.Refused (LevelAnswer.Highest m t) e = cc
-level_injective LevelAnswer.Refused (LevelAnswer.NoLevel t) e = cc
-level_injective LevelAnswer.Refused LevelAnswer.Refused e = refl
+pub number_injective : (x y : Option Level) → level_number x ≡ level_number y → x ≡ y
+number_injective (Some l) (Some m) e = let q : l.0 ≡ m.0 = omega (arith, e) in ap (λ (n : ℕ). Some (record { 0 = n })) q
+number_injective (Some l) None e = absurd (omega (arith, e))
+number_injective None (Some m) e = absurd (omega (arith, e))
+number_injective None None e = refl
 
-pub admission_injective : (x y : AdmissionAnswer) → told_admission x ≡ told_admission y → x ≡ y
-admission_injective AdmissionAnswer.Admitted AdmissionAnswer.Admitted e = refl
-admission_injective AdmissionAnswer.Admitted (AdmissionAnswer.Waits l) e = let z : ◌≡◌ {A = ℕ} 1 0 = cc in absurd (omega arith)
-admission_injective AdmissionAnswer.Admitted AdmissionAnswer.Refused e = cc
-admission_injective (AdmissionAnswer.Waits k) AdmissionAnswer.Admitted e = let z : ◌≡◌ {A = ℕ} 0 1 = cc in absurd (omega arith)
-admission_injective (AdmissionAnswer.Waits k) (AdmissionAnswer.Waits l) e =
-    let q : k.0 ≡ l.0 = cc in ap (λ (n : ℕ). AdmissionAnswer.Waits (record { 0 = n })) q
-admission_injective (AdmissionAnswer.Waits k) AdmissionAnswer.Refused e = cc
-admission_injective AdmissionAnswer.Refused AdmissionAnswer.Admitted e = cc
-admission_injective AdmissionAnswer.Refused (AdmissionAnswer.Waits l) e = cc
-admission_injective AdmissionAnswer.Refused AdmissionAnswer.Refused e = refl
+pub level_injective : (x y : Result Highest SiteRefused) → told_level x ≡ told_level y → x ≡ y
+level_injective (Ok h) (Ok i) e =
+    let q : level_number h.level ≡ level_number i.level = cc in
+    let r : h.stood ≡ i.stood = cc in
+    ap₂ (λ (l : Option Level) (n : ℕ). Ok (record { level = l; stood = n })) (number_injective h.level i.level q) r
+level_injective (Ok h) (Err w) e = cc
+level_injective (Err v) (Ok i) e = cc
+level_injective (Err v) (Err w) e = refl
 
-pub room_injective : (x y : RoomAnswer) → told_room x ≡ told_room y → x ≡ y
-room_injective (RoomAnswer.Room n) (RoomAnswer.Room m) e = let q : n ≡ m = cc in ap RoomAnswer.Room q
-room_injective (RoomAnswer.Room n) RoomAnswer.NoSuchLevel e = cc
-room_injective (RoomAnswer.Room n) RoomAnswer.Refused e = cc
-room_injective RoomAnswer.NoSuchLevel (RoomAnswer.Room m) e = cc
-room_injective RoomAnswer.NoSuchLevel RoomAnswer.NoSuchLevel e = refl
-room_injective RoomAnswer.NoSuchLevel RoomAnswer.Refused e = let z : ◌≡◌ {A = ℕ} 30 255 = cc in absurd (omega arith)
-room_injective RoomAnswer.Refused (RoomAnswer.Room m) e = cc
-room_injective RoomAnswer.Refused RoomAnswer.NoSuchLevel e = let z : ◌≡◌ {A = ℕ} 255 30 = cc in absurd (omega arith)
-room_injective RoomAnswer.Refused RoomAnswer.Refused e = refl
+pub admission_injective : (x y : Result Admission SiteRefused) → told_admission x ≡ told_admission y → x ≡ y
+admission_injective (Ok Admission.Admitted) (Ok Admission.Admitted) e = refl
+admission_injective (Ok Admission.Admitted) (Ok (Admission.Waits l)) e = let z : ◌≡◌ {A = ℕ} 1 0 = cc in absurd (omega arith)
+admission_injective (Ok Admission.Admitted) (Err w) e = cc
+admission_injective (Ok (Admission.Waits k)) (Ok Admission.Admitted) e = let z : ◌≡◌ {A = ℕ} 0 1 = cc in absurd (omega arith)
+admission_injective (Ok (Admission.Waits k)) (Ok (Admission.Waits l)) e =
+    let q : k.0 ≡ l.0 = cc in ap (λ (n : ℕ). Ok (Admission.Waits (record { 0 = n }))) q
+admission_injective (Ok (Admission.Waits k)) (Err w) e = cc
+admission_injective (Err v) (Ok Admission.Admitted) e = cc
+admission_injective (Err v) (Ok (Admission.Waits l)) e = cc
+admission_injective (Err v) (Err w) e = refl
+
+pub room_injective : (x y : Result ℕ RoomRefused) → told_room x ≡ told_room y → x ≡ y
+room_injective (Ok n) (Ok m) e = let q : n ≡ m = cc in ap Ok q
+room_injective (Ok n) (Err RoomRefused.NoSuchLevel) e = cc
+room_injective (Ok n) (Err RoomRefused.Site) e = cc
+room_injective (Err RoomRefused.NoSuchLevel) (Ok m) e = cc
+room_injective (Err RoomRefused.NoSuchLevel) (Err RoomRefused.NoSuchLevel) e = refl
+room_injective (Err RoomRefused.NoSuchLevel) (Err RoomRefused.Site) e = let z : ◌≡◌ {A = ℕ} 30 255 = cc in absurd (omega arith)
+room_injective (Err RoomRefused.Site) (Ok m) e = cc
+room_injective (Err RoomRefused.Site) (Err RoomRefused.NoSuchLevel) e = let z : ◌≡◌ {A = ℕ} 255 30 = cc in absurd (omega arith)
+room_injective (Err RoomRefused.Site) (Err RoomRefused.Site) e = refl
 
 pub told_injective : (x y : Answer) → told x ≡ told y → x ≡ y
 told_injective (refused n) (refused m) e = let q : n ≡ m = cc in ap refused q

@@ -4,9 +4,12 @@ use native.Mathlib.Omega.{arith}
 use mathlib.Core.Path.{◌≡◌, refl, sym, ap, ap₂, ◌∙◌}
 use mathlib.Core.Bool.{cond}
 use lib.Dec.{eqb}
+use Rattle.std.specs.Prelude.{Result, Ok, Err}
 use Rattle.model.specs.PlanValue.{refusal_number, told_read}
+use Rattle.model.specs.Refusal.{refusal_told}
+use Rattle.model.specs.declared.Refusal.{Refusal}
 use Rattle.model.specs.declared.PlanRefusal.{PlanRefusal}
-use Rattle.model.specs.declared.ReadAnswer.{ReadAnswer}
+use Rattle.model.specs.declared.ReadFault.{ReadFault}
 
 -- a number names its refusal
 abbrev refusal_of : ℕ → PlanRefusal
@@ -36,11 +39,47 @@ pub refusal_injective : (a b : PlanRefusal) → refusal_number a ≡ refusal_num
 refusal_injective a b e = sym (refusal_named a).0 ∙ ap refusal_of e ∙ (refusal_named b).0
 
 -- what a reading answer tells determines it
-pub read_injective : (a b : ReadAnswer) → told_read a ≡ told_read b → a ≡ b
-read_injective (ReadAnswer.Accepted u) (ReadAnswer.Accepted v) e = let same : u ≡ v = cc in ap ReadAnswer.Accepted same
-read_injective (ReadAnswer.Accepted u) (ReadAnswer.Refused w o) e = let z : refusal_number w ≡ 0 = cc in absurd ((refusal_named w).1 z)
-read_injective (ReadAnswer.Refused w o) (ReadAnswer.Accepted v) e = let z : refusal_number w ≡ 0 = cc in absurd ((refusal_named w).1 z)
-read_injective (ReadAnswer.Refused w o) (ReadAnswer.Refused x q) e =
-    let why : refusal_number w ≡ refusal_number x = cc in
-    let at : o ≡ q = cc in
-    ap₂ ReadAnswer.Refused (refusal_injective w x why) at
+pub read_injective : (a b : Result ℕ ReadFault) → told_read a ≡ told_read b → a ≡ b
+read_injective (Ok u) (Ok v) e = let same : u ≡ v = cc in ap Ok same
+read_injective (Ok u) (Err f) e = let z : refusal_number f.why ≡ 0 = cc in absurd ((refusal_named f.why).1 z)
+read_injective (Err f) (Ok v) e = let z : refusal_number f.why ≡ 0 = cc in absurd ((refusal_named f.why).1 z)
+read_injective (Err f) (Err g) e =
+    let why : refusal_number f.why ≡ refusal_number g.why = cc in
+    let at : f.offset ≡ g.offset = cc in
+    ap₂ (λ (w : PlanRefusal) (o : ℕ). Err (record { why = w; offset = o })) (refusal_injective f.why g.why why) at
+
+-- the same of the refusals of nets, commands and questions
+abbrev told_of : ℕ → Refusal
+told_of n =
+    cond (eqb n 18) Refusal.BrokenPlan
+    (cond (eqb n 19) Refusal.BrokenNet
+    (cond (eqb n 20) Refusal.NoTicket
+    (cond (eqb n 21) Refusal.TicketOpen
+    (cond (eqb n 22) Refusal.NoSuchNode
+    (cond (eqb n 23) Refusal.ParentNotOpen
+    (cond (eqb n 24) Refusal.ParentWaits
+    (cond (eqb n 25) Refusal.NoSuchEdge
+    (cond (eqb n 26) Refusal.TooManyOpen
+    (cond (eqb n 27) Refusal.NotOpen
+    (cond (eqb n 28) Refusal.StillWaits
+    (cond (eqb n 29) Refusal.ChildOpen
+    (cond (eqb n 30) Refusal.NoSuchRoom Refusal.NotWaiting))))))))))))
+
+pub told_named : (w : Refusal) → (told_of (refusal_told w) ≡ w) × (refusal_told w ≡ 0 → ⊥)
+told_named Refusal.BrokenPlan = (refl, λ e. omega arith)
+told_named Refusal.BrokenNet = (refl, λ e. omega arith)
+told_named Refusal.NoTicket = (refl, λ e. omega arith)
+told_named Refusal.TicketOpen = (refl, λ e. omega arith)
+told_named Refusal.NoSuchNode = (refl, λ e. omega arith)
+told_named Refusal.ParentNotOpen = (refl, λ e. omega arith)
+told_named Refusal.ParentWaits = (refl, λ e. omega arith)
+told_named Refusal.NoSuchEdge = (refl, λ e. omega arith)
+told_named Refusal.TooManyOpen = (refl, λ e. omega arith)
+told_named Refusal.NotOpen = (refl, λ e. omega arith)
+told_named Refusal.StillWaits = (refl, λ e. omega arith)
+told_named Refusal.ChildOpen = (refl, λ e. omega arith)
+told_named Refusal.NoSuchRoom = (refl, λ e. omega arith)
+told_named Refusal.NotWaiting = (refl, λ e. omega arith)
+
+pub told_injective : (a b : Refusal) → refusal_told a ≡ refusal_told b → a ≡ b
+told_injective a b e = sym (told_named a).0 ∙ ap told_of e ∙ (told_named b).0

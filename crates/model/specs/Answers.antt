@@ -1,12 +1,14 @@
 -- What the site book answers, told as document 01 numbers it: the refusal's number, or 0 where nothing is refused, and then the values.
 -- Assumes nothing.
-use Rattle.std.specs.Prelude.{ℕ, suc, ◌||◌, cond, List, [], ◌∷◌, leb}
+use Rattle.std.specs.Prelude.{ℕ, suc, ◌||◌, cond, List, [], ◌∷◌, leb, Option, Some, None, Result, Ok, Err}
 use Rattle.ids.specs.Made.{Told}
 use Rattle.model.specs.Site.{refuses_site, limit, may_admit, blocking, room}
 use Rattle.model.specs.Tree.{from_root}
-use Rattle.model.specs.declared.LevelAnswer.{LevelAnswer}
-use Rattle.model.specs.declared.AdmissionAnswer.{AdmissionAnswer}
-use Rattle.model.specs.declared.RoomAnswer.{RoomAnswer}
+use Rattle.ids.specs.declared.Level.{Level}
+use Rattle.model.specs.declared.Highest.{Highest}
+use Rattle.model.specs.declared.SiteRefused.{SiteRefused}
+use Rattle.model.specs.declared.Admission.{Admission}
+use Rattle.model.specs.declared.RoomRefused.{RoomRefused}
 
 -- the firmware's refusal of a site
 abbrev pub site_refusal : Told
@@ -16,22 +18,26 @@ site_refusal = 255 ∷ []
 abbrev pub level_refusal : Told
 level_refusal = 30 ∷ []
 
--- the level plus 1, or 0 for "none", and the tree nodes stood on; "a refusal, with no level and no count"
-abbrev pub told_level : LevelAnswer → Told
-told_level (LevelAnswer.Highest level stood) = 0 ∷ suc level.0 ∷ stood ∷ []
-told_level (LevelAnswer.NoLevel stood) = 0 ∷ 0 ∷ stood ∷ []
-told_level LevelAnswer.Refused = site_refusal
+-- a level plus 1, or 0 for "none"
+abbrev pub level_number : Option Level → ℕ
+level_number (Some level) = suc level.0
+level_number None = 0
+
+-- the level's number, and the tree nodes stood on; "a refusal, with no level and no count"
+abbrev pub told_level : Result Highest SiteRefused → Told
+told_level (Ok highest) = 0 ∷ level_number highest.level ∷ highest.stood ∷ []
+told_level (Err why) = site_refusal
 
 -- 1 where the level may be admitted; 0 and the level in the way where it waits
-abbrev pub told_admission : AdmissionAnswer → Told
-told_admission AdmissionAnswer.Admitted = 0 ∷ 1 ∷ []
-told_admission (AdmissionAnswer.Waits level) = 0 ∷ 0 ∷ level.0 ∷ []
-told_admission AdmissionAnswer.Refused = site_refusal
+abbrev pub told_admission : Result Admission SiteRefused → Told
+told_admission (Ok Admission.Admitted) = 0 ∷ 1 ∷ []
+told_admission (Ok (Admission.Waits level)) = 0 ∷ 0 ∷ level.0 ∷ []
+told_admission (Err why) = site_refusal
 
-abbrev pub told_room : RoomAnswer → Told
-told_room (RoomAnswer.Room n) = 0 ∷ n ∷ []
-told_room RoomAnswer.NoSuchLevel = level_refusal
-told_room RoomAnswer.Refused = site_refusal
+abbrev pub told_room : Result ℕ RoomRefused → Told
+told_room (Ok n) = 0 ∷ n ∷ []
+told_room (Err RoomRefused.NoSuchLevel) = level_refusal
+told_room (Err RoomRefused.Site) = site_refusal
 
 -- the highest admissible level, by its definition, and the tree nodes that the walk stood on
 unfoldable pub level_answer : ℕ → List ℕ → Told

@@ -23,5 +23,6 @@ pub mod Tally
 pub mod ProgramCase
 pub mod Same
 pub mod Useless
+pub mod Refusal
 pub mod Refusals
 pub mod Demands

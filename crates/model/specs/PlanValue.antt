@@ -1,6 +1,6 @@
 -- A plan as the value that holds it: the records stored one after the other in the empty plan, so that each plan has one value.
 -- Assumes nothing.
-use Rattle.std.specs.Prelude.{ℕ, zero, suc, ◌+◌, min, Bool, not, cond, List, [], ◌∷◌, get_or, replicate, set, eqb}
+use Rattle.std.specs.Prelude.{ℕ, zero, suc, ◌+◌, min, Bool, not, cond, List, [], ◌∷◌, get_or, replicate, set, eqb, Result, Ok, Err}
 use Rattle.std.proofs.Math.Option.{Option, none, some}
 use Rattle.ids.specs.Limits.{sites, nodes, most_edges}
 use Rattle.ids.specs.Made.{Told}
@@ -8,7 +8,7 @@ use Rattle.model.specs.Plan.{Record, site, node, edge, Place, push}
 use Rattle.model.specs.Reading.{Reading, accepted, refused_at}
 use Rattle.model.specs.declared.Plan.{Plan}
 use Rattle.model.specs.declared.PlanRefusal.{PlanRefusal}
-use Rattle.model.specs.declared.ReadAnswer.{ReadAnswer}
+use Rattle.model.specs.declared.ReadFault.{ReadFault}
 
 -- a node that has no record is nowhere; at any other place it has one, also where no site has that number (check 5)
 abbrev pub nowhere : ℕ
@@ -68,9 +68,9 @@ refusal_number PlanRefusal.SelfDependence = 8
 refusal_number PlanRefusal.TooManyEdges = 9
 
 -- the refusal's number, or 0, and then the offset or the bytes used
-abbrev pub told_read : ReadAnswer → Told
-told_read (ReadAnswer.Accepted used) = 0 ∷ used ∷ []
-told_read (ReadAnswer.Refused why offset) = refusal_number why ∷ offset ∷ []
+abbrev pub told_read : Result ℕ ReadFault → Told
+told_read (Ok used) = 0 ∷ used ∷ []
+told_read (Err fault) = refusal_number fault.why ∷ fault.offset ∷ []
 
 -- what a reading tells, and the plan that it hands back; demand 1, "A refused plan gives back the empty plan"
 abbrev pub reading_told : Reading → Told

@@ -1,6 +1,11 @@
 // The meaning of what the library answers, for a reader to believe: the types that everything speaks of, their definitions in specs/ and the
-// theorems in proofs/. No code.
+// theorems in proofs/. No code but the numbers of the refusals.
 #![tactic(auto)]
+
+ghost use Rattle.std.specs.Prelude.{◌≡◌};
+ghost use Rattle.model.specs.PlanValue.{refusal_number};
+ghost use Rattle.model.specs.Refusal.{refusal_told};
+ghost use Rattle.model.specs.declared.RoomRefused.{RoomRefused};
 
 use ids::{Level, Node, Site};
 
@@ -11,28 +16,38 @@ pub struct Walked {
     pub stood: u8,
 }
 
-// The highest admissible level at a site, and the tree nodes that the walk stood on.
+// The highest admissible level at a site, or none, and the tree nodes that the walk stood on.
 #[derive(Clone, Copy)]
-pub enum LevelAnswer {
-    Highest(Level, u8),
-    NoLevel(u8),
-    Refused,
+pub struct Highest {
+    pub level: Option<Level>,
+    pub stood: u8,
 }
+
+// The site book refuses: the threads and the counts are not those of a lawful site, or the asked level is not below the threads.
+#[derive(Clone, Copy, PartialEq, Eq)]
+pub struct SiteRefused;
 
 // Whether a call of some level may be admitted, and if not the level that is in the way: the highest full one at or below it.
-#[derive(Clone, Copy)]
-pub enum AdmissionAnswer {
+// kept: an Option of the level in the way would read `None` where a call is admitted.
+#[derive(Clone, Copy, PartialEq, Eq)]
+pub enum Admission {
     Admitted,
     Waits(Level),
-    Refused,
 }
 
-// The status page's figure for some level; a level that is not below the threads has none, and a refused site has none at any level.
-#[derive(Clone, Copy)]
-pub enum RoomAnswer {
-    Room(u8),
+// Why the status page has no figure: a refused site has none at any level, and else a level that is not below the threads.
+#[derive(Clone, Copy, PartialEq, Eq)]
+pub enum RoomRefused {
+    Site,
     NoSuchLevel,
-    Refused,
+}
+
+impl From<SiteRefused> for RoomRefused {
+    ghost from_gives = { λ _ why. why ≡ RoomRefused.Site };
+
+    fn from(_why: SiteRefused) -> RoomRefused {
+        RoomRefused::Site
+    }
 }
 
 // A plan by its numbers: the threads of each site, 0 where it has no record; the site of each node, `Plan::NOWHERE` where it has no record (any
@@ -61,7 +76,7 @@ pub enum PlanRecord {
 }
 
 // Why a plan is refused: the numbers 1 to 9 of document 01.
-#[derive(Clone, Copy)]
+#[derive(Clone, Copy, PartialEq, Eq)]
 pub enum PlanRefusal {
     InputEnds,
     UnknownKind,
@@ -74,16 +89,76 @@ pub enum PlanRefusal {
     TooManyEdges,
 }
 
-// The bytes used, or the refusal and its offset.
-#[derive(Clone, Copy)]
-pub enum ReadAnswer {
-    Accepted(usize),
-    Refused(PlanRefusal, usize),
+impl From<PlanRefusal> for u8 {
+    ghost from_gives = { λ why number. number ≡ refusal_number why };
+
+    fn from(why: PlanRefusal) -> u8 {
+        match why {
+            PlanRefusal::InputEnds => 1,
+            PlanRefusal::UnknownKind => 2,
+            PlanRefusal::NotRising => 3,
+            PlanRefusal::OutOfRange => 4,
+            PlanRefusal::NotListed => 5,
+            PlanRefusal::LevelTooHigh => 6,
+            PlanRefusal::Loop => 7,
+            PlanRefusal::SelfDependence => 8,
+            PlanRefusal::TooManyEdges => 9,
+        }
+    }
 }
 
-// What reading a plan answers; a refused reading hands back the empty plan.
+// A refusal of a plan's bytes, and its offset.
+#[derive(Clone, Copy, PartialEq, Eq)]
+pub struct ReadFault {
+    pub why: PlanRefusal,
+    pub offset: usize,
+}
+
+// What reading a plan answers: the bytes used, or the fault. A refused reading hands back the empty plan.
 #[derive(Clone, Copy)]
 pub struct PlanRead {
-    pub answer: ReadAnswer,
+    pub answer: Result<usize, ReadFault>,
     pub plan: Plan,
+}
+
+// Why a net, a command or a question is refused: the numbers 18 to 34 of document 01 and its requests.
+#[derive(Clone, Copy, PartialEq, Eq)]
+pub enum Refusal {
+    BrokenPlan,
+    BrokenNet,
+    NoTicket,
+    TicketOpen,
+    NoSuchNode,
+    ParentNotOpen,
+    ParentWaits,
+    NoSuchEdge,
+    TooManyOpen,
+    NotOpen,
+    StillWaits,
+    ChildOpen,
+    NoSuchRoom,
+    NotWaiting,
+}
+
+impl From<Refusal> for u8 {
+    ghost from_gives = { λ why number. number ≡ refusal_told why };
+
+    fn from(why: Refusal) -> u8 {
+        match why {
+            Refusal::BrokenPlan => 18,
+            Refusal::BrokenNet => 19,
+            Refusal::NoTicket => 20,
+            Refusal::TicketOpen => 21,
+            Refusal::NoSuchNode => 22,
+            Refusal::ParentNotOpen => 23,
+            Refusal::ParentWaits => 24,
+            Refusal::NoSuchEdge => 25,
+            Refusal::TooManyOpen => 26,
+            Refusal::NotOpen => 27,
+            Refusal::StillWaits => 28,
+            Refusal::ChildOpen => 29,
+            Refusal::NoSuchRoom => 30,
+            Refusal::NotWaiting => 34,
+        }
+    }
 }
