@@ -7,26 +7,7 @@ use Rattle.model.specs.Command.{Standing, is-running, is-waiting, not_open, ask,
 use Rattle.model.specs.Net.{Core}
 use Rattle.model.specs.Text.{Text, spaced, newline, answer_text, standing_text, room_text, command_text, ask_text, room_asked_text}
 use Rattle.model.specs.Transcript.{command, question, room_question, line}
-use Rattle.text.specs.Lines.{Shown, a_letter, a_number, a_refusal, a_level, lettered_end, of_answer, of_standing, of_room, printed, marked_end, answer_end, line_text, line2_text}
-
--- An answer as the stores leave it
-
-module _ (n : ℕ) where
-  pub letter_ends : lettered_end n ≡ answer_end (a_letter n)
-  unfolding answer_end printed lettered_end
-  letter_ends = refl
-
-  pub number_ends : spaced n ++ (10 ∷ []) ≡ answer_end (a_number n)
-  unfolding answer_end printed
-  number_ends = refl
-
-  pub refused_ends : marked_end 82 n ≡ answer_end (a_refusal n)
-  unfolding answer_end printed marked_end
-  refused_ends = refl
-
-  pub waits_ends : marked_end 87 n ≡ answer_end (a_level n)
-  unfolding answer_end printed marked_end
-  waits_ends = refl
+use Rattle.text.specs.Lines.{Shown, of_answer, of_standing, of_room, printed, answer_end, line_text, line2_text}
 
 -- The model's answers
 

@@ -3,7 +3,8 @@ use Prim.Native.Nat.{ℕ, suc, ◌+◌, ◌≤◌, ◌<◌}
 use native.Mathlib.Omega.{arith}
 use mathlib.Core.Path.{◌≡◌, refl, ap, ◌∙◌}
 use mathlib.Core.List.{List, [], ◌∷◌, ◌++◌}
-use lib.ListN.{length, set, take, drop, length-append, length-set}
+use lib.ListN.{length, set, take, drop, length-append, length-set, get_or}
+use Rattle.std.proofs.Math.Seq.{take-suc}
 use lib.Seq.{sets, length-sets, sets-eq, take_at, length-take-le}
 use Rattle.text.specs.Put.{Put}
 
@@ -72,3 +73,7 @@ module _ (old : List ℕ) (at a b : ℕ) where
     module _ (d : ℕ) where
       pub put_4 : at + 4 ≤ length old → Put old at (a ∷ b ∷ c ∷ d ∷ []) (set (set (set (set old at a) (at + 1) b) (at + 2) c) (at + 3) d) (at + 4)
       put_4 room = put_store (at + 3) d (at + 4) refl (omega arith) (simp length-set (omega arith)) (put_3 (omega arith))
+
+-- the first bytes and the one behind them
+pub take_next : (bytes : List ℕ) (i : ℕ) → i < length bytes → take (i + 1) bytes ≡ take i bytes ++ (get_or bytes i 0 ∷ [])
+take_next bytes i inside = let same : i + 1 ≡ suc i = omega arith in ap (λ (n : ℕ). take n bytes) same ∙ take-suc bytes i 0 inside

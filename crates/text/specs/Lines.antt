@@ -54,14 +54,6 @@ printed (a_number n) = spaced n
 printed (a_refusal n) = refusal_text n
 printed (a_level k) = 32 ∷ 87 ∷ spaced k
 
--- a letter and the line's end
-unfoldable pub lettered_end : ℕ → Text
-lettered_end letter = (32 ∷ letter ∷ []) ++ newline
-
--- a letter and a number, as `R` 27 or `W` 1, and the line's end
-unfoldable pub marked_end : ℕ → ℕ → Text
-marked_end letter n = (32 ∷ letter ∷ []) ++ spaced n ++ newline
-
 -- an answer ends its line
 unfoldable pub answer_end : Shown → Text
 answer_end what = printed what ++ newline

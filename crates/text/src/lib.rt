@@ -1,12 +1,12 @@
-// The text inside a run: items and lines written into a lent buffer, each function answering the place behind what it wrote. An inner crate: the
-// library's own crates alone call it, and leave room for what is written.
+// The text inside a run: items and lines written into a lent buffer. An inner crate: the library's own crates alone call it, and leave room for what is
+// written.
 #![tactic(auto)]
 
-ghost use Rattle.std.specs.Prelude.{◌+◌, ◌≤◌, ◌<◌, length};
-ghost use Rattle.model.specs.Text.{ascii, decimal, spaced, plan_line, plan_refused_line, done_line, bad_line};
-ghost use Rattle.text.specs.Put.{Put};
-ghost use Rattle.text.specs.Lines.{pair_text, lettered_end, marked_end, answer_end, accepted_told, shown_told, asked_text};
-ghost use Rattle.text.specs.Room.{number_room, long_room, answer_room, line_room, word_room, plan_room, plan_refused_room, done_room, bad_room};
+ghost use Rattle.std.specs.Prelude.{◌+◌, ◌≤◌, ◌<◌, ◌≡◌, [], ◌∷◌, length};
+ghost use Rattle.model.specs.Text.{decimal, spaced, plan_line, plan_refused_line, done_line, bad_line};
+ghost use Rattle.text.specs.Put.{Puts};
+ghost use Rattle.text.specs.Lines.{pair_text, printed, answer_end, accepted_told, shown_told, asked_text};
+ghost use Rattle.text.specs.Room.{number_room, long_room, said_room, answer_room, line_room, plan_room, plan_refused_room, done_room, bad_room, HasRoom};
 
 use model::Refusal;
 
@@ -28,212 +28,231 @@ pub enum Printed {
 // The digit 0.
 const ZERO: u16 = 48;
 
-// Two digits. They are made as one number, the first in its low byte, so that the back end stores both at once.
-fn pair(text: &mut [u8], at: usize, n: u16) -> usize
-    requires { (n < 100) × (at + 2 ≤ length text.old) }
-    ensures { Put text.old at (pair_text n) text.new result }
-{
-    let two = (ZERO + n / 10) + 256 * (ZERO + n % 10);
-    text[at] = (two % 256) as u8;
-    text[at + 1] = (two / 256) as u8;
-    at + 2
+// A lent text, and the place behind what was written into it.
+#[derive(Drop)]
+pub struct Page<'a> {
+    pub text: &'a mut [u8],
+    pub at: usize,
 }
 
-// A space and a number of up to five digits, straight on: it stands in every line. Most tickets have five.
-pub fn number(text: &mut [u8], at: usize, n: u16) -> usize
-    requires { at + number_room ≤ length text.old }
-    ensures { Put text.old at (spaced n) text.new result }
-{
-    text[at] = b' ';
-    if 10000 <= n {
-        text[at + 1] = b'0' + (n / 10000) as u8;
-        let rest = n % 10000;
-        let middle = pair(text, at + 2, rest / 100);
-        return pair(text, middle, rest % 100);
+impl<'a> Page<'a> {
+    // A byte.
+    pub fn put(&mut self, byte: u8)
+        requires { HasRoom self.old 1 }
+        ensures same_reference { self.new.text.ghost_name ≡ self.old.text.ghost_name }
+        ensures put { Puts self.old (byte ∷ []) self.new }
+    {
+        self.text[self.at] = byte;
+        self.at += 1;
     }
-    if n < 10 {
-        text[at + 1] = b'0' + n as u8;
-        return at + 2;
-    }
-    if n < 100 {
-        return pair(text, at + 1, n);
-    }
-    if n < 1000 {
-        text[at + 1] = b'0' + (n / 100) as u8;
-        return pair(text, at + 2, n % 100);
-    }
-    let middle = pair(text, at + 1, n / 100);
-    pair(text, middle, n % 100)
-}
 
-// The digits of any number: those of its tenth first, and then the last one.
-pub fn digits(text: &mut [u8], at: usize, n: usize) -> usize
-    requires { at + length (decimal n) ≤ length text.old }
-    ensures { Put text.old at (decimal n) text.new result }
-{
-    if n < 10 {
-        text[at] = b'0' + n as u8;
-        return at + 1;
-    }
-    let last = digits(text, at, n / 10);
-    text[last] = b'0' + (n % 10) as u8;
-    last + 1
-}
-
-// A space and any number.
-pub fn long_number(text: &mut [u8], at: usize, n: usize) -> usize
-    requires { at + long_room ≤ length text.old }
-    ensures { Put text.old at (spaced n) text.new result }
-{
-    text[at] = b' ';
-    digits(text, at + 1, n)
-}
-
-// A letter and the line's end.
-fn lettered(text: &mut [u8], at: usize, letter: u8) -> usize
-    requires { at + answer_room ≤ length text.old }
-    ensures { Put text.old at (lettered_end letter) text.new result }
-{
-    text[at] = b' ';
-    text[at + 1] = letter;
-    text[at + 2] = b'\n';
-    at + 3
-}
-
-// A letter, a number and the line's end.
-fn marked(text: &mut [u8], at: usize, letter: u8, n: u8) -> usize
-    requires { at + answer_room ≤ length text.old }
-    ensures { Put text.old at (marked_end letter n) text.new result }
-{
-    text[at] = b' ';
-    text[at + 1] = letter;
-    let told = number(text, at + 2, n as u16);
-    text[told] = b'\n';
-    told + 1
-}
-
-// The answer of a request that is not refused, and the line's end.
-fn accepted(text: &mut [u8], at: usize, what: Printed) -> usize
-    requires { at + answer_room ≤ length text.old }
-    ensures { Put text.old at (answer_end (accepted_told what)) text.new result }
-{
-    match what {
-        Printed::Active => lettered(text, at, b'G'),
-        Printed::Waits(level) => marked(text, at, b'W', level),
-        Printed::Running => lettered(text, at, b'A'),
-        Printed::Waiting => lettered(text, at, b'W'),
-        Printed::Absent => lettered(text, at, b'N'),
-        Printed::Number(n) => {
-            let told = number(text, at, n);
-            text[told] = b'\n';
-            told + 1
+    // Some bytes.
+    pub fn puts(&mut self, bytes: &[u8])
+        requires { HasRoom self.old (length bytes.now) }
+        ensures same_reference { self.new.text.ghost_name ≡ self.old.text.ghost_name }
+        ensures put { Puts self.old bytes.now self.new }
+    {
+        for byte in bytes {
+            self.put(*byte);
         }
     }
-}
 
-// An answer and the line's end.
-fn answer(text: &mut [u8], at: usize, what: Result<Printed, Refusal>) -> usize
-    requires { at + answer_room ≤ length text.old }
-    ensures { Put text.old at (answer_end (shown_told what)) text.new result }
-{
-    match what {
-        Ok(said) => accepted(text, at, said),
-        Err(why) => marked(text, at, b'R', u8::from(why)),
+    // Two digits. They are made as one number, the first in its low byte, so that the back end stores both at once.
+    fn pair(&mut self, n: u16)
+        requires few { n < 100 }
+        requires room { HasRoom self.old 2 }
+        ensures same_reference { self.new.text.ghost_name ≡ self.old.text.ghost_name }
+        ensures put { Puts self.old (pair_text n) self.new }
+    {
+        let two = (ZERO + n / 10) + 256 * (ZERO + n % 10);
+        self.text[self.at] = (two % 256) as u8;
+        self.text[self.at + 1] = (two / 256) as u8;
+        self.at += 2;
     }
-}
 
-// A command's line: its letter, its one or two numbers and the answer.
-pub fn line(
-    text: &mut [u8],
-    at: usize,
-    letter: u8,
-    first: u16,
-    second: Option<u16>,
-    what: Result<Printed, Refusal>,
-) -> usize
-    requires { at + line_room ≤ length text.old }
-    ensures { Put text.old at (asked_text letter first second (shown_told what)) text.new result }
-{
-    text[at] = letter;
-    let half = number(text, at + 1, first);
-    let Some(more) = second else {
-        return answer(text, half, what);
-    };
-    let asked = number(text, half, more);
-    answer(text, asked, what)
-}
+    // A space and a number of up to five digits, straight on: it stands in every line. Most tickets have five.
+    pub fn number(&mut self, n: u16)
+        requires { HasRoom self.old number_room }
+        ensures same_reference { self.new.text.ghost_name ≡ self.old.text.ghost_name }
+        ensures put { Puts self.old (spaced n) self.new }
+    {
+        self.put(b' ');
+        if 10000 <= n {
+            self.put(b'0' + (n / 10000) as u8);
+            let rest = n % 10000;
+            self.pair(rest / 100);
+            self.pair(rest % 100);
+            return;
+        }
+        if n < 10 {
+            self.put(b'0' + n as u8);
+            return;
+        }
+        if n < 100 {
+            self.pair(n);
+            return;
+        }
+        if n < 1000 {
+            self.put(b'0' + (n / 100) as u8);
+            self.pair(n % 100);
+            return;
+        }
+        self.pair(n / 100);
+        self.pair(n % 100);
+    }
 
-// The word that begins the first line.
-fn plan(text: &mut [u8], at: usize) -> usize
-    requires { at + word_room ≤ length text.old }
-    ensures { Put text.old at (ascii "plan") text.new result }
-{
-    text[at] = b'p';
-    text[at + 1] = b'l';
-    text[at + 2] = b'a';
-    text[at + 3] = b'n';
-    at + 4
-}
+    // The digits of any number: those of its tenth first, and then the last one.
+    pub fn digits(&mut self, n: usize)
+        requires { HasRoom self.old (length (decimal n)) }
+        ensures same_reference { self.new.text.ghost_name ≡ self.old.text.ghost_name }
+        ensures put { Puts self.old (decimal n) self.new }
+    {
+        if n < 10 {
+            self.put(b'0' + n as u8);
+            return;
+        }
+        self.digits(n / 10);
+        self.put(b'0' + (n % 10) as u8);
+    }
 
-// The first line, of a plan that is accepted.
-pub fn plan_line(
-    text: &mut [u8],
-    at: usize,
-    sites: usize,
-    nodes: usize,
-    edges: usize,
-    bytes: usize,
-) -> usize
-    requires { at + plan_room ≤ length text.old }
-    ensures { Put text.old at (plan_line sites nodes edges bytes) text.new result }
-{
-    let word = plan(text, at);
-    let first = long_number(text, word, sites);
-    let second = long_number(text, first, nodes);
-    let third = long_number(text, second, edges);
-    let fourth = long_number(text, third, bytes);
-    text[fourth] = b'\n';
-    fourth + 1
-}
+    // A space and any number.
+    pub fn long_number(&mut self, n: usize)
+        requires { HasRoom self.old long_room }
+        ensures same_reference { self.new.text.ghost_name ≡ self.old.text.ghost_name }
+        ensures put { Puts self.old (spaced n) self.new }
+    {
+        self.put(b' ');
+        self.digits(n);
+    }
 
-// The first line, of a plan that is refused.
-pub fn plan_refused_line(text: &mut [u8], at: usize, refusal: u8, offset: usize) -> usize
-    requires { at + plan_refused_room ≤ length text.old }
-    ensures { Put text.old at (plan_refused_line refusal offset) text.new result }
-{
-    let word = plan(text, at);
-    text[word] = b' ';
-    text[word + 1] = b'R';
-    let first = number(text, word + 2, refusal as u16);
-    let second = long_number(text, first, offset);
-    text[second] = b'\n';
-    second + 1
-}
+    // A space and a letter.
+    fn letter(&mut self, mark: u8)
+        requires { HasRoom self.old 2 }
+        ensures same_reference { self.new.text.ghost_name ≡ self.old.text.ghost_name }
+        ensures put { Puts self.old (32 ∷ mark ∷ []) self.new }
+    {
+        self.put(b' ');
+        self.put(mark);
+    }
 
-// The last line, of an input that ended behind a whole command.
-pub fn done_line(text: &mut [u8], at: usize, commands: usize) -> usize
-    requires { at + done_room ≤ length text.old }
-    ensures { Put text.old at (done_line commands) text.new result }
-{
-    text[at] = b'd';
-    text[at + 1] = b'o';
-    text[at + 2] = b'n';
-    text[at + 3] = b'e';
-    let first = long_number(text, at + 4, commands);
-    text[first] = b'\n';
-    first + 1
-}
+    // A space, a letter and a number.
+    fn marked(&mut self, letter: u8, n: u8)
+        requires { HasRoom self.old said_room }
+        ensures same_reference { self.new.text.ghost_name ≡ self.old.text.ghost_name }
+        ensures put { Puts self.old (32 ∷ letter ∷ spaced n) self.new }
+    {
+        self.letter(letter);
+        self.number(n as u16);
+    }
 
-// The last line, of an input that is cut or has a record of no known kind.
-pub fn bad_line(text: &mut [u8], at: usize, why: u8, offset: usize) -> usize
-    requires { at + bad_room ≤ length text.old }
-    ensures { Put text.old at (bad_line why offset) text.new result }
-{
-    text[at] = b'b';
-    text[at + 1] = b'a';
-    text[at + 2] = b'd';
-    let first = number(text, at + 3, why as u16);
-    let second = long_number(text, first, offset);
-    text[second] = b'\n';
-    second + 1
+    // The answer of a request that is not refused.
+    fn accepted(&mut self, said: Printed)
+        requires { HasRoom self.old said_room }
+        ensures same_reference { self.new.text.ghost_name ≡ self.old.text.ghost_name }
+        ensures put { Puts self.old (printed (accepted_told said)) self.new }
+        ensures few { length (printed (accepted_told said)) ≤ said_room }
+    {
+        match said {
+            Printed::Active => self.letter(b'G'),
+            Printed::Waits(level) => self.marked(b'W', level),
+            Printed::Running => self.letter(b'A'),
+            Printed::Waiting => self.letter(b'W'),
+            Printed::Absent => self.letter(b'N'),
+            Printed::Number(n) => self.number(n),
+        }
+    }
+
+    // An answer.
+    fn said(&mut self, what: Result<Printed, Refusal>)
+        requires { HasRoom self.old said_room }
+        ensures same_reference { self.new.text.ghost_name ≡ self.old.text.ghost_name }
+        ensures put { Puts self.old (printed (shown_told what)) self.new }
+        ensures few { length (printed (shown_told what)) ≤ said_room }
+    {
+        match what {
+            Ok(said) => self.accepted(said),
+            Err(why) => self.marked(b'R', u8::from(why)),
+        }
+    }
+
+    // An answer and the line's end.
+    fn answer(&mut self, what: Result<Printed, Refusal>)
+        requires { HasRoom self.old answer_room }
+        ensures same_reference { self.new.text.ghost_name ≡ self.old.text.ghost_name }
+        ensures put { Puts self.old (answer_end (shown_told what)) self.new }
+    {
+        self.said(what);
+        self.put(b'\n');
+    }
+
+    // A command's line: its letter, its one or two numbers and the answer.
+    pub fn line(
+        &mut self,
+        letter: u8,
+        first: u16,
+        second: Option<u16>,
+        what: Result<Printed, Refusal>,
+    )
+        requires { HasRoom self.old line_room }
+        ensures same_reference { self.new.text.ghost_name ≡ self.old.text.ghost_name }
+        ensures put { Puts self.old (asked_text letter first second (shown_told what)) self.new }
+    {
+        self.put(letter);
+        self.number(first);
+        let Some(more) = second else {
+            self.answer(what);
+            return;
+        };
+        self.number(more);
+        self.answer(what);
+    }
+
+    // The first line, of a plan that is accepted.
+    pub fn plan_line(&mut self, sites: usize, nodes: usize, edges: usize, bytes: usize)
+        requires { HasRoom self.old plan_room }
+        ensures same_reference { self.new.text.ghost_name ≡ self.old.text.ghost_name }
+        ensures put { Puts self.old (plan_line sites nodes edges bytes) self.new }
+    {
+        self.puts(b"plan");
+        self.long_number(sites);
+        self.long_number(nodes);
+        self.long_number(edges);
+        self.long_number(bytes);
+        self.put(b'\n');
+    }
+
+    // The first line, of a plan that is refused.
+    pub fn plan_refused_line(&mut self, refusal: u8, offset: usize)
+        requires { HasRoom self.old plan_refused_room }
+        ensures same_reference { self.new.text.ghost_name ≡ self.old.text.ghost_name }
+        ensures put { Puts self.old (plan_refused_line refusal offset) self.new }
+    {
+        self.puts(b"plan R");
+        self.number(refusal as u16);
+        self.long_number(offset);
+        self.put(b'\n');
+    }
+
+    // The last line, of an input that ended behind a whole command.
+    pub fn done_line(&mut self, commands: usize)
+        requires { HasRoom self.old done_room }
+        ensures same_reference { self.new.text.ghost_name ≡ self.old.text.ghost_name }
+        ensures put { Puts self.old (done_line commands) self.new }
+    {
+        self.puts(b"done");
+        self.long_number(commands);
+        self.put(b'\n');
+    }
+
+    // The last line, of an input that is cut or has a record of no known kind.
+    pub fn bad_line(&mut self, why: u8, offset: usize)
+        requires { HasRoom self.old bad_room }
+        ensures same_reference { self.new.text.ghost_name ≡ self.old.text.ghost_name }
+        ensures put { Puts self.old (bad_line why offset) self.new }
+    {
+        self.puts(b"bad");
+        self.number(why as u16);
+        self.long_number(offset);
+        self.put(b'\n');
+    }
 }

@@ -1,0 +1,13 @@
+-- `Page::answer` meets its contract: the newline has room behind any answer, and ends its line. Assumes nothing.
+use native.Mathlib.Omega.{arith}
+use Rattle.text.specs.Lines.{answer_end}
+use Rattle.text.specs.Room.{said_room}
+use Rattle.text.proofs.PutLaws.{put_then, room_left}
+use Rattle.text.proofs.Page.answer.Goals as goal
+
+pub put-requires : goal.put-requires
+put-requires c = room_left said_room 1 c.said.ensures.put c.said.ensures.few c.requires
+
+pub returns-clause-put : goal.returns-clause-put
+unfolding answer_end
+returns-clause-put c = put_then c.said.ensures.put c.put.ensures.put
