@@ -7,8 +7,7 @@ use mathlib.Core.Bool.{Bool, true, false, ◌||◌, cond, or-false, or-true}
 use mathlib.Core.List.{List}
 use mathlib.Core.Option.{none, some}
 use lib.Dec.{eqb, leb}
-use lib.ListN.{length, get_or, set, length-set}
-use lib.Seq.{get_or-set_same, get_or-set_other}
+use lib.ListN.{length, get_or}
 use borrow.Author.Count.{below_more}
 use borrow.Author.Tests.{eqb-true, eqb-false, eq-eqb, ne_eqb}
 use Rattle.lists.proofs.CountLaws.{get_or_inside}
@@ -91,9 +90,6 @@ pub record Stepping (set word : ℕ) (row : ℕ → Bool) (m : ℕ) : Type 0 whe
   pub left : (i : ℕ) → m ≤ i → member word i ≡ member set i
   pub up_to : m ≤ nodes
 
-pub stepping_none : (set : ℕ) (row : ℕ → Bool) → Stepping set set row 0
-stepping_none set row = record { done = λ i h. absurd (omega arith); left = λ i h. refl; up_to = omega arith }
-
 module _ (set word : ℕ) (row : ℕ → Bool) (m : ℕ) (inside : m < nodes) (so_far : Stepping set word row m) where
   pub stepping_skip : row m ≡ false → Stepping set word row (m + 1)
   stepping_skip e =
@@ -129,28 +125,6 @@ pub record SteppingRows (old rows places levels : List ℕ) (n : ℕ) : Type 0 w
   pub left : (i : ℕ) → n ≤ i → get_or rows i 0 ≡ get_or old i 0
   pub long : length rows ≡ length old
   pub up_to : n ≤ nodes
-
-pub rows_none : (old places levels : List ℕ) → SteppingRows old old places levels 0
-rows_none old places levels = record { done = λ i h. absurd (omega arith); left = λ i h. refl; long = refl; up_to = omega arith }
-
-pub rows_more : (old rows places levels : List ℕ) (n word : ℕ) → length old ≡ nodes → n < nodes → SteppingRows old rows places levels n
-    → WithSteps (get_or rows n 0) word (steps_in places levels n) → SteppingRows old (set rows n word) places levels (n + 1)
-rows_more old rows places levels n word whole inside so_far row =
-    record {
-      done =
-          below_more (λ i. WithSteps (get_or old i 0) (get_or (set rows n word) i 0) (steps_in places levels i)) n
-          (λ i h m hm. ap (λ (w : ℕ). member w m) (other i (λ q. omega arith)) ∙ so_far.done i h m hm)
-          (λ m hm.
-          ap (λ (w : ℕ). member w m) (get_or-set_same rows n word 0 (omega (arith, so_far.long)))
-          ∙ row m hm
-          ∙ ap (λ (w : ℕ). member w m || steps_in places levels n m) (so_far.left n (omega arith)));
-      left = λ i h. other i (λ q. omega arith) ∙ so_far.left i (omega arith);
-      long = length-set rows n word ∙ so_far.long;
-      up_to = omega arith;
-    }
-  where
-    other : (i : ℕ) → (i ≡ n → ⊥) → get_or (set rows n word) i 0 ≡ get_or rows i 0
-    other i apart = get_or-set_other rows n i word 0 apart
 
 pub rows_all : (old rows places levels : List ℕ) → SteppingRows old rows places levels nodes
     → RowsTell rows (either (linked old) (steps_in places levels))

@@ -1,5 +1,5 @@
 -- The part of a relation that rows of words can hold, and the steps within a site over the plan's arrays. Assumes nothing.
-use Rattle.std.specs.Prelude.{ℕ, ◌<◌, ◌≡◌, Bool, false, ◌&&◌, ◌||◌, cond, List, ltb, leb, eqb, length, get_or}
+use Rattle.std.specs.Prelude.{ℕ, ◌<◌, ◌≡◌, Bool, false, ◌&&◌, ◌||◌, cond, List, ltb, leb, eqb, get_or}
 use Rattle.ids.specs.Limits.{nodes}
 use Rattle.model.specs.PlanValue.{somewhere}
 use Rattle.words.specs.Words.{member}
@@ -18,21 +18,3 @@ steps_in places levels n m =
 -- a set with the nodes more that pass a test
 abbrev pub WithSteps : ℕ → ℕ → (ℕ → Bool) → Type 0
 WithSteps old new row = (m : ℕ) → m < nodes → member new m ≡ (member old m || row m)
-
--- Arrays that are lent: the places and the levels of all nodes, and the rows
-
-pub record StepAsked (places levels : List ℕ) (n m : ℕ) : Type 0 where
-  pub placed : length places ≡ nodes
-  pub levelled : length levels ≡ nodes
-  pub from_node : n < nodes
-  pub to_node : m < nodes
-
-pub record RowAsked (places levels : List ℕ) (n : ℕ) : Type 0 where
-  pub placed : length places ≡ nodes
-  pub levelled : length levels ≡ nodes
-  pub row_node : n < nodes
-
-pub record StepsAsked (rows places levels : List ℕ) : Type 0 where
-  pub whole : length rows ≡ nodes
-  pub placed : length places ≡ nodes
-  pub levelled : length levels ≡ nodes

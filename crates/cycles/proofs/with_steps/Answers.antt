@@ -4,21 +4,14 @@ use native.Mathlib.Omega.{arith}
 use mathlib.Core.Path.{sym, subst, ◌∙◌}
 use Rattle.ids.specs.Limits.{nodes}
 use Rattle.cycles.specs.Within.{steps_in}
-use Rattle.cycles.proofs.StepLaws.{Stepping, stepping_none, stepping_skip, stepping_with}
+use Rattle.cycles.proofs.StepLaws.{Stepping, stepping_skip, stepping_with}
 use Rattle.cycles.proofs.with_steps.Goals as goal
 use Rattle.cycles.proofs.with_steps.Goals.{then-steps_down, else-steps_down}
-
-pub loop-m-init : goal.loop-m-init
-loop-m-init c = stepping_none _ _
-
-pub steps_down-requires : goal.steps_down-requires
-steps_down-requires c = let asked = c.requires in
-    record { placed = asked.placed; levelled = asked.levelled; from_node = omega (arith, asked.row_node); to_node = omega (arith, asked.row_node) }
 
 pub loop-m-preserved : goal.loop-m-preserved
 loop-m-preserved c = let a = c.args in
     let m = c.loop-m.m in
-    let steps = steps_in a.places.now a.levels.now a.n in
+    let steps = steps_in a.plan.now.places a.plan.now.levels a.n in
     let inside : m < nodes = omega (arith, c.loop-m-test.true) in
     let told = c.steps_down.ensures in
     elim c.if-steps_down.branch [
@@ -29,6 +22,3 @@ loop-m-preserved c = let a = c.args in
           subst (λ (word : ℕ). Stepping a.set word steps (m + 1)) (sym w.row-is)
           (stepping_skip a.set c.loop-m.row steps m inside c.loop-m.invariant (sym told ∙ w.if-steps_down.false))
     ]
-
-pub returns : goal.returns
-returns c = λ m h. c.loop-m.invariant.done m (omega (arith, c.loop-m-test.false))

@@ -1,12 +1,7 @@
 -- `cycles::with_steps` meets its contract. The loop's invariant: the steps to the nodes below m are taken. Assumes nothing.
-use Prim.Native.Nat.{◌-◌}
-use Rattle.ids.specs.Limits.{nodes}
 use Rattle.cycles.specs.Within.{steps_in}
 use Rattle.cycles.proofs.StepLaws.{Stepping}
 use Rattle.cycles.proofs.with_steps.Given as goal
 
 abbrev pub invariant-loop-m : goal.invariant-loop-m
-invariant-loop-m l = Stepping l.set l.row (steps_in l.places l.levels l.n) l.m
-
-abbrev pub decreases-loop-m : goal.decreases-loop-m
-decreases-loop-m l = nodes - l.m
+invariant-loop-m l = Stepping l.set l.row (steps_in l.plan.places l.plan.levels l.n) l.m
