@@ -1,5 +1,5 @@
 -- How many bytes each text of `shown` may take, and so the room that its function asks for. Assumes nothing.
-use Rattle.std.specs.Prelude.{ℕ, ◌+◌, ◌*◌, ◌<◌, ◌≤◌, List, length}
+use Rattle.std.specs.Prelude.{ℕ, ◌+◌, ◌*◌}
 use Rattle.ids.specs.Limits.{nodes}
 use Rattle.text.specs.Room.{number_room, plan_room}
 
@@ -15,20 +15,6 @@ line_most = 2 + 1 + nodes * item_most + 1
 abbrev pub shown_most : ℕ
 shown_most = plan_room + nodes * line_most
 
--- with room for one number of any size, which `text::number` asks for whatever it writes
+-- with room for one number of any size, which `Page::number` asks for whatever it writes
 abbrev pub shown_room : ℕ
 shown_room = shown_most + number_room
-
--- what the parts ask for: a place for so many bytes, and for a node
-
-pub record ItemRoom (text : List ℕ) (at m : ℕ) : Type 0 where
-  pub room : at + number_room ≤ length text
-  pub node : m < nodes
-
-pub record RowRoom (text : List ℕ) (at n : ℕ) : Type 0 where
-  pub room : at + nodes * item_most + number_room ≤ length text
-  pub node : n < nodes
-
-pub record LineRoom (text : List ℕ) (at n : ℕ) : Type 0 where
-  pub room : at + line_most + number_room ≤ length text
-  pub node : n < nodes

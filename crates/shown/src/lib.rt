@@ -1,27 +1,25 @@
-// The text of a plan: the bench program's first line, and what depends on what. Each function writes into a lent buffer and answers the place behind what it
-// wrote. An inner crate: the programs call it, and leave room for what is written; `writing` has a plan's records counted here.
+// The text of a plan: the bench program's first line, and what depends on what. Each function writes on a page. An inner crate: the programs call it, and leave room for what is written; `writing` has a plan's records counted here.
 #![tactic(auto)]
 
-ghost use Rattle.std.specs.Prelude.{◌+◌, ◌*◌, ◌≤◌, ◌≡◌, length};
+ghost use Rattle.std.specs.Prelude.{◌+◌, ◌*◌, ◌<◌, ◌≤◌, ◌≡◌, length};
 ghost use Rattle.ids.specs.Limits.{nodes};
 ghost use Rattle.model.specs.PlanValue.{somewhere};
-ghost use Rattle.text.specs.Put.{Put};
-ghost use Rattle.text.specs.Room.{number_room, plan_room};
+ghost use Rattle.text.specs.Put.{Put, Puts};
+ghost use Rattle.text.specs.Room.{number_room, plan_room, HasRoom};
 ghost use Rattle.shown.specs.Heading.{site_count, node_count, first_text};
 ghost use Rattle.shown.specs.Lines.{item as item-text, items, node_text, node_texts, shown_text, is_listed, told_on};
-ghost use Rattle.shown.specs.Room.{line_most, shown_room, ItemRoom, RowRoom, LineRoom};
+ghost use Rattle.shown.specs.Room.{item_most, line_most, shown_room};
 
 use ids::{Node, Site};
 use model::{Plan, PlanRead};
 use printable::Table;
-
-// kept: a text and the place in it go side by side and not as a struct, since the functions of `text`, which write all of it, take the two.
+use text::Page;
 
 // The room that `first_line` asks for, `plan_room`: the longest first line.
 pub const LINE: usize = 89;
 
 // The room that `show` asks for, `shown_room`: the longest first line, for each node its number, a colon, 64 numbers with a space each and the line's end, and
-// behind them room for a number of any size, which `text::number` asks for whatever it writes.
+// behind them room for a number of any size, which `Page::number` asks for whatever it writes.
 pub const ROOM: usize = LINE + Node::COUNT * (3 * Node::COUNT + 4) + 6;
 
 // How many sites a plan has: those with threads.
@@ -42,72 +40,67 @@ pub fn node_count(plan: Plan) -> usize
 }
 
 // The first line.
-pub fn first_line(text: &mut [u8], at: usize, read: PlanRead) -> usize
-    requires { at + plan_room ≤ length text.old }
-    ensures { Put text.old at (first_text read) text.new result }
+pub fn first_line<'a>(page: &mut Page<'a>, read: PlanRead)
+    requires { HasRoom page.old plan_room }
+    ensures same_reference { page.new.text.ghost_name ≡ page.old.text.ghost_name }
+    ensures put { Puts page.old (first_text read) page.new }
 {
     let plan = read.plan;
     match read.answer {
-        Ok(used) => text::plan_line(
-            text,
-            at,
-            site_count(plan),
-            node_count(plan),
-            plan.edges,
-            used,
-        ),
-        Err(fault) => text::plan_refused_line(text, at, u8::from(fault.why), fault.offset),
+        Ok(used) => page.plan_line(site_count(plan), node_count(plan), plan.edges, used),
+        Err(fault) => page.plan_refused_line(u8::from(fault.why), fault.offset),
     }
 }
 
 // A node's number behind a space, where it is to be named.
-fn item(text: &mut [u8], at: usize, m: usize, named: bool) -> usize
-    requires { ItemRoom text.old at m }
-    ensures { Put text.old at (item-text named m) text.new result }
+fn item<'a>(page: &mut Page<'a>, m: usize, named: bool)
+    requires room { HasRoom page.old number_room }
+    requires node { m < nodes }
+    ensures same_reference { page.new.text.ghost_name ≡ page.old.text.ghost_name }
+    ensures put { Puts page.old (item-text named m) page.new }
 {
     if named {
-        return text::number(text, at, m as u16);
+        page.number(m as u16);
     }
-    at
 }
 
 // The nodes that n depends on.
-fn row(text: &mut [u8], start: usize, table: Table, n: usize) -> usize
-    requires { RowRoom text.old start n }
-    ensures { Put text.old start (items (told_on table.cells n) nodes) text.new result }
+fn row<'a>(page: &mut Page<'a>, table: &Table, n: usize)
+    requires room { HasRoom page.old (nodes * item_most + number_room) }
+    requires node { n < nodes }
+    ensures same_reference { page.new.text.ghost_name ≡ page.old.text.ghost_name }
+    ensures put { Puts page.old (items (told_on table.now.cells n) nodes) page.new }
 {
-    let mut at = start;
     for m in 0..Node::COUNT {
-        at = item(text, at, m, table.cells[Node::COUNT * n + m] == 1);
+        item(page, m, table.cells[Node::COUNT * n + m] == 1);
     }
-    at
 }
 
 // The line of a node, where it is listed.
-fn node_line(text: &mut [u8], start: usize, place: u8, table: Table, n: usize) -> usize
-    requires { LineRoom text.old start n }
-    ensures { Put text.old start (node_text (somewhere place) (told_on table.cells n) n) text.new result }
+fn node_line<'a>(page: &mut Page<'a>, place: u8, table: &Table, n: usize)
+    requires room { HasRoom page.old (line_most + number_room) }
+    requires node { n < nodes }
+    ensures same_reference { page.new.text.ghost_name ≡ page.old.text.ghost_name }
+    ensures put { Puts page.old (node_text (somewhere place) (told_on table.now.cells n) n) page.new }
 {
     if place == Plan::NOWHERE {
-        return start;
+        return;
     }
-    let colon = text::digits(text, start, n);
-    text[colon] = b':';
-    let end = row(text, colon + 1, table, n);
-    text[end] = b'\n';
-    end + 1
+    page.digits(n);
+    page.put(b':');
+    row(page, table, n);
+    page.put(b'\n');
 }
 
 // The lines of the listed nodes.
-fn node_lines(text: &mut [u8], start: usize, plan: Plan, table: Table) -> usize
-    requires { start + nodes * line_most + number_room ≤ length text.old }
-    ensures { Put text.old start (node_texts (is_listed plan.places) (told_on table.cells) nodes) text.new result }
+fn node_lines<'a>(page: &mut Page<'a>, plan: &Plan, table: &Table)
+    requires { HasRoom page.old (nodes * line_most + number_room) }
+    ensures same_reference { page.new.text.ghost_name ≡ page.old.text.ghost_name }
+    ensures put { Puts page.old (node_texts (is_listed plan.now.places) (told_on table.now.cells) nodes) page.new }
 {
-    let mut at = start;
     for n in 0..Node::COUNT {
-        at = node_line(text, at, plan.places[n], table, n);
+        node_line(page, plan.places[n], table, n);
     }
-    at
 }
 
 // All that is shown for some bytes: the first line, and where the end record was reached the lines of the nodes. For these the bytes are scanned once more, since
@@ -116,11 +109,12 @@ pub fn show(text: &mut [u8], bytes: &[u8]) -> usize
     requires { shown_room ≤ length text.old }
     ensures { Put text.old 0 (shown_text bytes.now) text.new result }
 {
-    let at = first_line(text, 0, plan::read(bytes));
+    let mut page = Page { text, at: 0 };
+    first_line(&mut page, plan::read(bytes));
     let scanned = plan::scan(bytes);
-    let Ok(_) = scanned.answer else {
-        return at;
-    };
-    let table = printable::dependence(scanned.plan);
-    node_lines(text, at, scanned.plan, table)
+    if scanned.answer.is_ok() {
+        let table = printable::dependence(scanned.plan);
+        node_lines(&mut page, &scanned.plan, &table);
+    }
+    page.at
 }
