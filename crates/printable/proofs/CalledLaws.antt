@@ -1,6 +1,7 @@
 -- How the nodes that a set calls are gathered: those of the set that have been looked at are no longer to be, and what they call is in. Assumes nothing.
 use Prim.Native.Nat.{ℕ, ◌^◌, ◌<◌}
 use native.Mathlib.Nat.{lt_trans}
+use native.Mathlib.Omega.{arith}
 use mathlib.Core.Path.{◌≡◌, sym, ap, ◌∙◌, subst}
 use mathlib.Core.Logic.{◌⊎◌, inl, inr, ⊎_elim}
 use mathlib.Core.List.{List}
@@ -26,6 +27,10 @@ pub record Calling (calls : List ℕ) (set all todo : ℕ) : Type 0 where
 pub calling_none : (calls : List ℕ) (set : ℕ) → set < 2 ^ nodes → Calling calls set 0 set
 calling_none calls set small =
     record { sound = λ m h. absurd (subst T (member_zero m) h); done = λ n m h e. inr h; inside = λ n h. h; todo_small = small }
+
+-- the node that is looked at next is one
+pub next_inside : {calls : List ℕ} {set all todo next : ℕ} → next ≡ least todo → (todo ≡ 0 → ⊥) → Calling calls set all todo → next < nodes
+next_inside {todo = todo} e some so_far = omega (arith, (least_inside todo so_far.todo_small (omega arith)).0)
 
 -- one turn, of what the code has: the least node that is to be looked at, and the others
 pub calling_more : {calls : List ℕ} {set all todo next rest : ℕ} → next ≡ least todo → rest ≡ without_least todo → 0 < todo → Calling calls set all todo

@@ -1,14 +1,14 @@
 -- How a table of bytes is filled row by row, and what a table that tells a relation shows: the table itself, since each byte is 0 or 1. Assumes nothing.
 use Prim.Native.Nat.{ℕ, ◌+◌, ◌*◌, ◌/◌, ◌%◌, ◌<◌, ◌≤◌}
-use mathlib.Core.Path.{◌≡◌, refl, sym, ap, ◌∙◌, subst}
+use mathlib.Core.Path.{◌≡◌, refl, sym, ◌∙◌, subst}
 use mathlib.Core.Bool.{Bool, true, false}
 use mathlib.Core.List.{List}
 use mathlib.Core.Logic.Iff
 use mathlib.Core.Logic.{◌↔◌, ⊎_elim}
 use native.Mathlib.Omega.{arith}
 use lib.Dec.{T, eqb}
-use lib.ListN.{length, get_or, set, length-set, get_or-eq_default}
-use lib.Seq.{ext_get_or, get_or-set_same, get_or-set_other}
+use lib.ListN.{length, get_or, get_or-eq_default}
+use lib.Seq.{ext_get_or}
 use mir.Val.{bool_byte}
 use borrow.Author.Count.{below_more}
 use borrow.Author.Tests.{eqb-true, eqb-false}
@@ -38,32 +38,6 @@ tells_one a b relation one two = ext_get_or 0 a b (one.long ∙ sym two.long) sa
     same x h =
         let place : nodes * (x / nodes) + x % nodes ≡ x = omega arith in
         subst (λ (y : ℕ). get_or a y 0 ≡ get_or b y 0) place (pair (x / nodes) (x % nodes) (omega (arith, one.long)) (omega arith))
-
--- A row
-
-pub rowed_none : (old : List ℕ) (n : ℕ) (row : ℕ → Bool) → Rowed old old n row 0
-rowed_none old n row = record { done = λ m h. absurd (omega arith); other = λ i m apart h. refl; long = refl }
-
-pub rowed_more : (old new : List ℕ) (n : ℕ) (row : ℕ → Bool) (m : ℕ) → length old ≡ nodes * nodes → n < nodes → m < nodes
-    → (b : Bool) → b ≡ row m → Rowed old new n row m → Rowed old (set new (nodes * n + m) (bool_byte b)) n row (m + 1)
-rowed_more old new n row m long hn hm b is so_far =
-    record {
-      done =
-          below_more (λ k. get_or next (nodes * n + k) 0 ≡ bool_byte (row k)) m
-          (λ k h. kept n k (λ e. omega arith) ∙ so_far.done k h)
-          (get_or-set_same new x (bool_byte b) 0 (omega (arith, so_far.long)) ∙ ap bool_byte is);
-      other = λ i k apart h. kept i k (λ e. apart (omega arith)) ∙ so_far.other i k apart h;
-      long = length-set new x (bool_byte b) ∙ so_far.long;
-    }
-  where
-    x : ℕ
-    x = nodes * n + m
-
-    next : List ℕ
-    next = set new x (bool_byte b)
-
-    kept : (i k : ℕ) → (nodes * i + k ≡ x → ⊥) → get_or next (nodes * i + k) 0 ≡ get_or new (nodes * i + k) 0
-    kept i k apart = get_or-set_other new x (nodes * i + k) (bool_byte b) 0 apart
 
 -- All rows: a byte is 1 where its statement holds, and else 0
 pub record Byte (byte : ℕ) (statement : Type 0) : Type 0 where

@@ -24,9 +24,3 @@ pub record Rowed (old new : List ℕ) (n : ℕ) (row : ℕ → Bool) (count : �
   pub done : (m : ℕ) → m < count → get_or new (nodes * n + m) 0 ≡ bool_byte (row m)
   pub other : (i m : ℕ) → (i ≡ n → ⊥) → m < nodes → get_or new (nodes * i + m) 0 ≡ get_or old (nodes * i + m) 0
   pub long : length new ≡ length old
-
--- rows that are lent, and a node
-pub record LentRows (calls paths : List ℕ) (n : ℕ) : Type 0 where
-  pub call_rows : length calls ≡ nodes
-  pub path_rows : length paths ≡ nodes
-  pub node : n < nodes

@@ -3,7 +3,7 @@ use Rattle.printable.proofs.CalledLaws.{Calling}
 use Rattle.printable.proofs.called.Given as goal
 
 abbrev pub invariant-loop-todo : goal.invariant-loop-todo
-invariant-loop-todo l = Calling l.calls l.set l.all l.todo
+invariant-loop-todo l = Calling l.calls.rows l.set l.all l.todo
 
 abbrev pub decreases-loop-todo : goal.decreases-loop-todo
 decreases-loop-todo l = l.todo

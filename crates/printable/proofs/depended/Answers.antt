@@ -7,5 +7,5 @@ use Rattle.printable.proofs.depended.Goals as goal
 
 pub returns : goal.returns
 returns c = let from-n =
-    subst (λ (set : ℕ). ReachedFrom c.args.paths.now set c.reached-before.result) c.with.ensures c.reached-before.ensures in
-    depended_is c.requires.node from-n c.called.ensures c.reached.ensures
+    subst (λ (set : ℕ). ReachedFrom c.args.paths.now.rows set c.reached-before.result) c.with.ensures c.reached-before.ensures in
+    depended_is c.requires from-n c.called.ensures c.reached.ensures

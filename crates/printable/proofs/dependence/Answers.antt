@@ -1,11 +1,7 @@
 -- `printable::dependence` meets its contract. The loop's invariant: the rows of the nodes below n are written; they tell what the plan's rows say.
 -- Assumes nothing.
-use Prim.Native.Nat.{ℕ}
 use native.Mathlib.Omega.{arith}
-use mathlib.Core.Path.{◌≡◌, sym, subst}
-use lib.ListN.{get_or}
-use mir.Syntax.{w64}
-use mir.Val.{Fits}
+use mathlib.Core.Path.{◌≡◌, subst}
 use borrow.Author.Rules.{rules}
 use Rattle.ids.specs.Limits.{nodes}
 use Rattle.model.specs.Graph.{either, Depends}
@@ -18,34 +14,23 @@ use Rattle.printable.proofs.TellLaws.{Filling, filling_more, filled_tells}
 use Rattle.printable.proofs.DependsLaws.{rows_depend}
 use Rattle.printable.proofs.dependence.Goals as goal
 
-pub loop-n-init : goal.loop-n-init
-loop-n-init c = record { done = λ i h. absurd (omega arith); long = search rules; up_to = omega arith }
-
-pub depended-requires : goal.depended-requires
-depended-requires c = record { call_rows = search rules; path_rows = search rules; node = omega arith }
-
-pub put_row-requires : goal.put_row-requires
-put_row-requires c = (c.loop-n.invariant.long, c.loop-n-test.true)
-
 pub loop-n-preserved : goal.loop-n-preserved
 loop-n-preserved c = filling_more c.depended.result c.loop-n.invariant c.loop-n-test.true c.depended.ensures c.put_row.ensures
 
 pub returns : goal.returns
-returns c = let rs = records_of c.args.plan in
-    let all : c.loop-n.n ≡ nodes = omega (arith, c.loop-n.invariant.up_to, c.loop-n-test.false) in
-    let whole = subst (Filling c.call_rows-edges.result.rows c.path_rows.result.rows c.loop-n.cells) all c.loop-n.invariant in
-    filled_tells (Depends (within_nodes (has_edge rs)) (site_steps rs)) whole
-    (rows_depend c.args.plan ((let it : Sized c.args.plan = search rules in it)) ((let it : RowsWhole c.call_rows-edges.result.rows (has_edge (records_of c.args.plan)) = let word : (n : ℕ) → Fits w64 (get_or c.call_rows-edges.result.rows n 0) = λ n. search rules in
-    record { is = c.call_rows-edges.ensures; whole = search rules; small = λ n. omega (arith, word n) } in it)) ((let it : let rs = records_of c.args.plan in
-    RowsWhole c.path_rows.result.rows (either (has_edge rs) (site_steps rs)) = let rs = records_of c.args.plan in
-    let word : (n : ℕ) → Fits w64 (get_or c.path_rows.result.rows n 0) = λ n. search rules in
+returns c = let p = c.args.plan in
+    let edges = c.call_rows-calls.result.rows in
+    let paths = c.path_rows-paths.result.rows in
+    let calls = has_edge (records_of p) in
+    let steps = site_steps (records_of p) in
+    let sized : Sized p = search rules in
+    let calling : RowsWhole edges calls = record { is = c.call_rows-calls.ensures; whole = search rules; small = λ n. search rules } in
+    let pathing : RowsWhole paths (either calls steps) =
     record {
-      is =
-          paths_tell c.call_rows-edges.result.rows c.path_rows.result.rows (has_edge rs) (site_steps rs) c.call_rows-edges.ensures
-          c.path_rows.ensures;
+      is = paths_tell edges paths calls steps c.call_rows-calls.ensures c.path_rows-paths.ensures;
       whole = search rules;
-      small = λ n. omega (arith, word n);
-    } in it)))
-
-pub slice_bounds-put_row-end : goal.slice_bounds-put_row-end
-slice_bounds-put_row-end c = sym c.loop-n.invariant.long
+      small = λ n. search rules;
+    } in
+    let all : c.loop-n.n ≡ nodes = omega (arith, c.loop-n.invariant.up_to, c.loop-n-test.false) in
+    filled_tells (Depends (within_nodes calls) steps) (subst (Filling edges paths c.loop-n.table.cells) all c.loop-n.invariant)
+    (rows_depend p sized calling pathing)

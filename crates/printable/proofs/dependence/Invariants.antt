@@ -1,12 +1,7 @@
 -- `printable::dependence` meets its contract. The loop's invariant: the rows of the nodes below n are written; they tell what the plan's rows say.
 -- Assumes nothing.
-use Prim.Native.Nat.{◌-◌}
-use Rattle.ids.specs.Limits.{nodes}
 use Rattle.printable.proofs.TellLaws.{Filling}
 use Rattle.printable.proofs.dependence.Given as goal
 
 abbrev pub invariant-loop-n : goal.invariant-loop-n
-invariant-loop-n l = Filling l.calls l.paths l.cells l.n
-
-abbrev pub decreases-loop-n : goal.decreases-loop-n
-decreases-loop-n l = nodes - l.n
+invariant-loop-n l = Filling l.calls.rows l.paths.rows l.table.cells l.n
