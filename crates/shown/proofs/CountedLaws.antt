@@ -48,7 +48,7 @@ module _ (p : Plan) (sized : Sized p) where
   unfolding site_count
   sites_counted =
       sym (ap count (records_each p)
-      ∙ each_skip count (edge_at p.callers p.callees) (min p.edges most_edges) (its_nodes p) (λ i qs l. refl)
+      ∙ each_skip count (edge_at p.pairs) (min p.edges most_edges) (its_nodes p) (λ i qs l. refl)
       ∙ each_skip count (node_at p.places p.levels) nodes (its_sites p) (λ i qs l. no_site i qs (somewhere (get_or p.places i nowhere)))
       ∙ counted count (site_at p.threads) [] (λ t. not (eqb t 0)) p.threads (λ i l qs. one i qs (eqb (get_or p.threads i 0) 0)) sites sized.threads
       ∙ add-zero _)
@@ -71,7 +71,7 @@ module _ (p : Plan) (sized : Sized p) where
   unfolding node_count listed
   nodes_counted =
       sym (ap count (records_each p)
-      ∙ each_skip count (edge_at p.callers p.callees) (min p.edges most_edges) (its_nodes p) (λ i qs l. refl)
+      ∙ each_skip count (edge_at p.pairs) (min p.edges most_edges) (its_nodes p) (λ i qs l. refl)
       ∙ counted count (node_at p.places p.levels) (its_sites p) somewhere p.places
       (λ i l qs.
       one i qs (somewhere (get_or p.places i nowhere))

@@ -112,9 +112,10 @@ pub fn show(text: &mut [u8], bytes: &[u8]) -> usize
     let mut page = Page { text, at: 0 };
     first_line(&mut page, plan::read(bytes));
     let scanned = plan::scan(bytes);
-    if scanned.answer.is_ok() {
-        let table = printable::dependence(scanned.plan);
-        node_lines(&mut page, &scanned.plan, &table);
-    }
+    let Ok(_) = scanned.answer else {
+        return page.at;
+    };
+    let table = printable::dependence(scanned.plan);
+    node_lines(&mut page, &scanned.plan, &table);
     page.at
 }

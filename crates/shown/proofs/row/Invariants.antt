@@ -1,0 +1,8 @@
+-- `shown::row` meets its contract. The loop's invariant: the nodes below m are put where they are to be named. Assumes nothing.
+use mathlib.Core.Path.{◌≡◌}
+use Rattle.text.specs.Put.{Puts}
+use Rattle.shown.specs.Lines.{items, told_on}
+use Rattle.shown.proofs.row.Given as goal
+
+abbrev pub invariant-loop-m : goal.invariant-loop-m
+invariant-loop-m l = (l.page.text.ghost_name ≡ l.initial.page.text.ghost_name) × Puts l.initial.page (items (told_on l.table.cells l.n) l.m) l.page
