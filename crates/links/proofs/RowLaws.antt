@@ -23,10 +23,6 @@ use Rattle.links.specs.Rows.{linked, RowsTell}
 
 -- One pair more
 
--- a number that is no node makes no pair
-pub link_outside : (rows : List ℕ) (from to : ℕ) → nodes ≤ from → RowsTell rows (λ n m. (eqb from n && eqb to m) || linked rows n m)
-link_outside rows from to out n m hn hm = rw (ne_eqb from n (λ e. omega arith))
-
 or_turned : (a b : Bool) → (a || b) ≡ (b || a)
 or_turned true true = refl
 or_turned true false = refl

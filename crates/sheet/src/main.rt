@@ -2,127 +2,85 @@
 #![tactic(auto)]
 
 use audit::check;
-use ids::{Level, MadeLevel, MadeNode, MadeSite, MadeTicket, Node, Site, Ticket};
-use model::{AdmissionAnswer, LevelAnswer, Plan, ReadAnswer, RoomAnswer};
-use record::Checked;
-
-fn say(rt: &HostRuntime, words: &[u8]) {
-    let _ = rt.write_all(words);
-}
-
-// A word and a number.
-fn say_item(rt: &HostRuntime, word: &[u8], number: u64) {
-    say(rt, word);
-    let _ = rt.print(number);
-}
+use ids::{Level, Node, Site, Ticket};
+use model::{Admission, Highest, Plan, ReadFault, RoomRefused, SiteRefused};
+use std::io;
 
 // The count of each level where calls of these levels are active.
 fn counts_of(active: &[u8]) -> [u8; Site::THREADS] {
     let mut counts = [0u8; Site::THREADS];
-    for active_level in active {
-        let level = *active_level as usize;
-        if level < Site::THREADS {
-            if counts[level] < 255 {
-                counts[level] += 1;
-            }
+    for level in active {
+        if let Some(count) = counts.get_mut(*level as usize) {
+            *count = count.saturating_add(1);
         }
     }
     counts
 }
 
 // The first half of a line: the threads and the levels of the active calls.
-fn say_site(rt: &HostRuntime, threads: u8, active: &[u8]) {
-    say_item(rt, b"threads ", threads as u64);
-    say(rt, b" active");
+fn say_site(rt: &HostRuntime, threads: u8, active: &[u8]) -> io::Result<()> {
+    print!(rt; "threads {threads} active")?;
     for level in active {
-        say_item(rt, b" ", *level as u64);
+        print!(rt; " {level}")?;
     }
-    say(rt, b": ");
-}
-
-fn say_level(rt: &HostRuntime, answer: LevelAnswer) {
-    match answer {
-        LevelAnswer::Highest(level, stood) => {
-            say_item(rt, b"highest ", level.0 as u64);
-            say_item(rt, b", tree nodes ", stood as u64);
-        }
-        LevelAnswer::NoLevel(stood) => {
-            say_item(rt, b"none, tree nodes ", stood as u64);
-        }
-        LevelAnswer::Refused => {
-            say(rt, b"refused");
-        }
-    }
+    print!(rt; ": ")
 }
 
 // The level answer of a site, and what C gets.
-fn show_level(rt: &HostRuntime, threads: u8, active: &[u8]) {
+fn show_level(rt: &HostRuntime, threads: u8, active: &[u8]) -> io::Result<()> {
     let counts = counts_of(active);
-    say_site(rt, threads, active);
-    say_level(rt, book::level(threads, &counts));
-    say_item(
-        rt,
-        b"; for C ",
-        book::admission_level(threads as u32, &counts) as u64,
-    );
-    say(rt, b"\n");
+    say_site(rt, threads, active)?;
+    match book::level(threads, &counts) {
+        Ok(
+            Highest {
+                level: Some(level),
+                stood,
+            },
+        ) => print!(rt; "highest {}, tree nodes {stood}", level.0)?,
+        Ok(Highest { level: None, stood }) => print!(rt; "none, tree nodes {stood}")?,
+        Err(SiteRefused) => print!(rt; "refused")?,
+    }
+    let for_c = book::admission_level(threads as u32, &counts);
+    println!(rt; "; for C {for_c}")
 }
 
 // What C gets for any thread count and any number of counts.
-fn show_for_c(rt: &HostRuntime, threads: u32, counts: &[u8]) {
-    say_item(rt, b"threads ", threads as u64);
-    say_item(rt, b", counts ", counts.len() as u64);
-    say_item(
-        rt,
-        b": for C ",
-        book::admission_level(threads, counts) as u64,
-    );
-    say(rt, b"\n");
+fn show_for_c(rt: &HostRuntime, threads: u32, counts: &[u8]) -> io::Result<()> {
+    let length = counts.len();
+    let for_c = book::admission_level(threads, counts);
+    println!(rt; "threads {threads}, counts {length}: for C {for_c}")
 }
 
-fn show_admission(rt: &HostRuntime, threads: u8, active: &[u8], level: u8) {
+fn show_admission(rt: &HostRuntime, threads: u8, active: &[u8], level: u8) -> io::Result<()> {
     let counts = counts_of(active);
-    say_site(rt, threads, active);
-    say_item(rt, b"level ", level as u64);
+    say_site(rt, threads, active)?;
     match book::admission(threads, &counts, Level(level)) {
-        AdmissionAnswer::Admitted => say(rt, b" may be admitted\n"),
-        AdmissionAnswer::Waits(blocked_by) => {
-            say_item(rt, b" waits for level ", blocked_by.0 as u64);
-            say(rt, b"\n");
+        Ok(Admission::Admitted) => println!(rt; "level {level} may be admitted"),
+        Ok(Admission::Waits(blocked_by)) => {
+            println!(rt; "level {level} waits for level {}", blocked_by.0)
         }
-        AdmissionAnswer::Refused => say(rt, b" is refused\n"),
+        Err(SiteRefused) => println!(rt; "level {level} is refused"),
     }
 }
 
-fn show_room(rt: &HostRuntime, threads: u8, active: &[u8], level: u8) {
+fn show_room(rt: &HostRuntime, threads: u8, active: &[u8], level: u8) -> io::Result<()> {
     let counts = counts_of(active);
-    say_site(rt, threads, active);
-    say_item(rt, b"room at level ", level as u64);
+    say_site(rt, threads, active)?;
     match book::room(threads, &counts, Level(level)) {
-        RoomAnswer::Room(room) => say_item(rt, b" is ", room as u64),
-        RoomAnswer::NoSuchLevel => say_item(rt, b" is refused ", 30),
-        RoomAnswer::Refused => say_item(rt, b" is refused ", 255),
+        Ok(room) => println!(rt; "room at level {level} is {room}"),
+        Err(RoomRefused::NoSuchLevel) => println!(rt; "room at level {level} is refused 30"),
+        Err(RoomRefused::Site) => println!(rt; "room at level {level} is refused 255"),
     }
-    say(rt, b"\n");
 }
 
 // Two sites of 2 threads; nodes 0 at site 0, 1 and 2 at site 1, 3 at site 0; edges 0 to 1 and 2 to 3; all levels 0 but that of node 2.
 fn two_sites(level: u8) -> Plan {
     let mut plan = record::empty();
-    plan.threads[0] = 2;
-    plan.threads[1] = 2;
-    plan.places[0] = 0;
-    plan.places[1] = 1;
-    plan.places[2] = 1;
-    plan.places[3] = 0;
-    plan.levels[0] = 0;
-    plan.levels[1] = 0;
-    plan.levels[2] = level;
-    plan.levels[3] = 0;
-    plan.callers[0] = 0;
-    plan.callees[0] = 1;
-    plan.callers[1] = 2;
-    plan.callees[1] = 3;
+    plan.threads[..2].copy_from_slice(&[2, 2]);
+    plan.places[..4].copy_from_slice(&[0, 1, 1, 0]);
+    plan.levels[..4].copy_from_slice(&[0, 0, level, 0]);
+    plan.callers[..2].copy_from_slice(&[0, 2]);
+    plan.callees[..2].copy_from_slice(&[1, 3]);
     plan.edges = 2;
     plan
 }
@@ -137,130 +95,102 @@ fn one_node(level: u8) -> Plan {
 }
 
 // The refusal's number, or 0.
-fn fault(plan: Plan) -> u64 {
-    let checked = check(plan).checked;
-    match checked {
-        Checked::Passed => 0,
-        Checked::Refused(why) => plan::refusal_number(why) as u64,
-    }
+fn show_fault(rt: &HostRuntime, words: &str, plan: Plan) -> io::Result<()> {
+    let fault = match check(plan).checked {
+        Ok(()) => 0,
+        Err(why) => u8::from(why),
+    };
+    println!(rt; "{words}: fault {fault}")
 }
 
-fn show_fault(rt: &HostRuntime, words: &[u8], plan: Plan) {
-    say(rt, words);
-    say_item(rt, b": fault ", fault(plan));
-    say(rt, b"\n");
-}
-
-fn show_read(rt: &HostRuntime, words: &[u8], bytes: &[u8]) {
-    let read = plan::read(bytes);
-    let answer = read.answer;
-    say(rt, words);
-    match answer {
-        ReadAnswer::Accepted(used) => say_item(rt, b": accepted, bytes ", used as u64),
-        ReadAnswer::Refused(why, offset) => {
-            say_item(rt, b": refused ", plan::refusal_number(why) as u64);
-            say_item(rt, b" at ", offset as u64);
+fn show_read(rt: &HostRuntime, words: &str, bytes: &[u8]) -> io::Result<()> {
+    match plan::read(bytes).answer {
+        Ok(used) => println!(rt; "{words}: accepted, bytes {used}"),
+        Err(ReadFault { why, offset }) => {
+            let number = u8::from(why);
+            println!(rt; "{words}: refused {number} at {offset}")
         }
     }
-    say(rt, b"\n");
 }
 
-fn say_made(rt: &HostRuntime, word: &[u8], made: bool) {
-    say(rt, word);
-    if made {
-        say(rt, b" made");
-    } else {
-        say(rt, b" refused");
-    }
+fn told(made: bool) -> &'static str {
+    if made { "made" } else { "refused" }
 }
 
 // A number as a site, a node and a level.
-fn show_new(rt: &HostRuntime, number: u8) {
-    let site = Site::new(number);
-    let node = Node::new(number);
-    let level = Level::new(number);
-    say_item(rt, b"number ", number as u64);
-    match site {
-        MadeSite::Made(_) => say_made(rt, b": site", true),
-        MadeSite::Refused => say_made(rt, b": site", false),
-    }
-    match node {
-        MadeNode::Made(_) => say_made(rt, b", node", true),
-        MadeNode::Refused => say_made(rt, b", node", false),
-    }
-    match level {
-        MadeLevel::Made(_) => say_made(rt, b", level", true),
-        MadeLevel::Refused => say_made(rt, b", level", false),
-    }
-    say(rt, b"\n");
+fn show_new(rt: &HostRuntime, number: u8) -> io::Result<()> {
+    let site = told(Site::new(number).is_some());
+    let node = told(Node::new(number).is_some());
+    let level = told(Level::new(number).is_some());
+    println!(rt; "number {number}: site {site}, node {node}, level {level}")
 }
 
-fn show_new_ticket(rt: &HostRuntime, number: u16) {
-    let ticket = Ticket::new(number);
-    say_item(rt, b"number ", number as u64);
-    match ticket {
-        MadeTicket::Made(_) => say_made(rt, b": ticket", true),
-        MadeTicket::Refused => say_made(rt, b": ticket", false),
-    }
-    say(rt, b"\n");
+fn show_new_ticket(rt: &HostRuntime, number: u16) -> io::Result<()> {
+    let ticket = told(Ticket::new(number).is_some());
+    println!(rt; "number {number}: ticket {ticket}")
 }
 
 // The level sheet's sites.
-fn levels(rt: &HostRuntime) {
-    show_level(rt, 10, b"\x01\x02\x03\x04\x04\x04\x05\x06\x09");
-    show_level(rt, 10, b"\x01\x02\x04\x04\x04\x05\x06\x09");
-    show_level(rt, 10, b"\x01\x02\x04\x04\x05\x06\x09");
-    show_level(rt, 3, b"\x01\x01");
-    show_level(rt, 1, b"");
-    show_level(rt, 1, b"\x00");
-    show_level(rt, 64, b"");
+fn levels(rt: &HostRuntime) -> io::Result<()> {
+    show_level(rt, 10, &[1, 2, 3, 4, 4, 4, 5, 6, 9])?;
+    show_level(rt, 10, &[1, 2, 4, 4, 4, 5, 6, 9])?;
+    show_level(rt, 10, &[1, 2, 4, 4, 5, 6, 9])?;
+    show_level(rt, 3, &[1, 1])?;
+    show_level(rt, 1, &[])?;
+    show_level(rt, 1, &[0])?;
+    show_level(rt, 64, &[])
 }
 
 // The refusals of a site, each alone.
-fn refusals(rt: &HostRuntime) {
-    show_level(rt, 0, b"");
-    show_level(rt, 65, b"");
-    show_level(rt, 3, b"\x03");
-    show_level(rt, 3, b"\x01\x01\x01");
-    let counts = counts_of(b"");
-    show_for_c(rt, 64, &counts);
-    show_for_c(rt, 320, &counts);
-    show_for_c(rt, 3, b"\x00\x00\x00");
+fn refusals(rt: &HostRuntime) -> io::Result<()> {
+    show_level(rt, 0, &[])?;
+    show_level(rt, 65, &[])?;
+    show_level(rt, 3, &[3])?;
+    show_level(rt, 3, &[1, 1, 1])?;
+    let counts = counts_of(&[]);
+    show_for_c(rt, 64, &counts)?;
+    show_for_c(rt, 320, &counts)?;
+    show_for_c(rt, 3, &[0, 0, 0])
 }
 
-fn admissions(rt: &HostRuntime) {
-    show_admission(rt, 3, b"\x01\x01", 0);
-    show_admission(rt, 3, b"\x01\x01", 2);
-    show_admission(rt, 3, b"\x01\x01", 3);
-    show_admission(rt, 3, b"\x01\x01\x01", 0);
-    show_room(rt, 3, b"\x01\x01", 0);
-    show_room(rt, 3, b"\x01\x01", 2);
-    show_room(rt, 3, b"\x01\x01", 3);
-    show_room(rt, 3, b"\x01\x01\x01", 3);
+fn admissions(rt: &HostRuntime) -> io::Result<()> {
+    show_admission(rt, 3, &[1, 1], 0)?;
+    show_admission(rt, 3, &[1, 1], 2)?;
+    show_admission(rt, 3, &[1, 1], 3)?;
+    show_admission(rt, 3, &[1, 1, 1], 0)?;
+    show_room(rt, 3, &[1, 1], 0)?;
+    show_room(rt, 3, &[1, 1], 2)?;
+    show_room(rt, 3, &[1, 1], 3)?;
+    show_room(rt, 3, &[1, 1, 1], 3)
 }
 
-fn plans(rt: &HostRuntime) {
-    show_fault(rt, b"two sites, all levels 0", two_sites(0));
-    show_fault(rt, b"two sites, node 2 at level 1", two_sites(1));
-    show_fault(rt, b"64 threads, level 63", one_node(63));
-    show_fault(rt, b"64 threads, level 64", one_node(64));
-    show_read(rt, b"the empty input", b"");
-    show_read(rt, b"the end record alone", b"\x04");
+fn plans(rt: &HostRuntime) -> io::Result<()> {
+    show_fault(rt, "two sites, all levels 0", two_sites(0))?;
+    show_fault(rt, "two sites, node 2 at level 1", two_sites(1))?;
+    show_fault(rt, "64 threads, level 63", one_node(63))?;
+    show_fault(rt, "64 threads, level 64", one_node(64))?;
+    show_read(rt, "the empty input", &[])?;
+    show_read(rt, "the end record alone", &[4])
 }
 
-fn makings(rt: &HostRuntime) {
-    show_new(rt, 15);
-    show_new(rt, 16);
-    show_new(rt, 63);
-    show_new(rt, 64);
-    show_new_ticket(rt, 0);
-    show_new_ticket(rt, 65535);
+fn makings(rt: &HostRuntime) -> io::Result<()> {
+    show_new(rt, 15)?;
+    show_new(rt, 16)?;
+    show_new(rt, 63)?;
+    show_new(rt, 64)?;
+    show_new_ticket(rt, 0)?;
+    show_new_ticket(rt, 65535)
 }
 
+fn sheet(rt: &HostRuntime) -> io::Result<()> {
+    levels(rt)?;
+    refusals(rt)?;
+    admissions(rt)?;
+    plans(rt)?;
+    makings(rt)
+}
+
+// Where a line cannot be written there is no one to be told.
 fn main(rt: HostRuntime) {
-    levels(&rt);
-    refusals(&rt);
-    admissions(&rt);
-    plans(&rt);
-    makings(&rt);
+    let _ = sheet(&rt);
 }

@@ -116,9 +116,6 @@ module _ (T : ℕ) (a : List ℕ) (ok : TreeCounts T a) (first end : ℕ) (row :
   unfolding P
   end_below = let h : end * P < (2 * first + 1) * P = omega (arith, shape, row.end_high, ok.most) in lt_of_mul-lt-mul_right P h
 
-  pub end_most : end ≤ places
-  end_most = omega (arith, end_below, first_most)
-
   -- the end of the next height's row
   next_low : end * P ≤ (end + 1) / 2 * (2 * P)
   next_low = omega (arith, mul-le-mul_right P (halved end))
