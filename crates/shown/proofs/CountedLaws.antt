@@ -11,7 +11,7 @@ use lib.Dec.{eqb}
 use lib.ListN.{length, get_or, take}
 use Rattle.std.proofs.Common.{take_all, add-zero}
 use Rattle.std.specs.List.{count_by}
-use Rattle.std.proofs.lemmas.List.Sums.{count_by_more_yes, count_by_more_no}
+use Rattle.std.proofs.lemmas.List.Sums.{count_by-le-length, count_by_more_yes, count_by_more_no}
 use Rattle.lists.proofs.CountLaws.{get_or_inside}
 use Rattle.ids.specs.Limits.{sites, nodes, most_edges}
 use Rattle.model.specs.Plan.{Record, site, node, push, sites_of, listed}
@@ -93,3 +93,10 @@ module _ (p : Plan) (sized : Sized p) where
           → count (push (cond b (some (node i (get_or p.places i nowhere) (get_or p.levels i 0))) none) qs) ≡ cond b (suc (count qs)) (count qs)
       one i qs true = refl
       one i qs false = refl
+
+  -- and there are not many
+  pub sites_few : site_count p ≤ sites
+  sites_few = omega (arith, sites_counted, count_by-le-length (λ (t : ℕ). not (eqb t 0)) p.threads, sized.threads)
+
+  pub nodes_few : node_count p ≤ nodes
+  nodes_few = omega (arith, nodes_counted, count_by-le-length somewhere p.places, sized.places)
