@@ -2,10 +2,10 @@
 // follows a line for each listed node with the nodes that it depends on. The text is `shown`'s.
 #![tactic(auto)]
 
-use ids::{Node, Site};
+use model::Plan;
 
 // The records of the largest plan, and behind them the longest record: so that whatever stands there is seen whole.
-const MOST_BYTES: usize = 3 * Site::COUNT + 4 * Node::COUNT + 3 * Node::EDGES + 4;
+const MOST_BYTES: usize = Plan::FILE + 3;
 
 fn main(rt: HostRuntime) {
     let mut input = [0u8; MOST_BYTES];

@@ -2,15 +2,15 @@
 // Then the same, with two lengths, of plan values that no file has.
 #![tactic(auto)]
 
-use ids::{Node, Site};
-use model::Plan;
+use ids::Node;
+use model::{Edge, Plan};
 use writing::WriteRefusal;
 
 // A byte that no file has: its numbers are at most 64.
 const UNTOUCHED: u8 = 170;
 
 // The largest file, and one byte more.
-const MOST: usize = 3 * Site::COUNT + 4 * Node::COUNT + 3 * Node::EDGES + 2;
+const MOST: usize = Plan::FILE + 1;
 
 fn say(rt: &HostRuntime, words: &[u8]) {
     let _ = rt.write_all(words);
@@ -72,6 +72,13 @@ fn show_value(rt: &HostRuntime, words: &[u8], plan: Plan) {
     try_length(rt, plan, MOST, 24);
 }
 
+fn edge(caller: u8, callee: u8) -> Edge {
+    Edge {
+        caller: Node(caller),
+        callee: Node(callee),
+    }
+}
+
 // Two sites of 1 thread with a node each, 0 and 1; an edge from 0 to 1.
 fn small_plan() -> Plan {
     let mut plan = record::empty();
@@ -79,8 +86,7 @@ fn small_plan() -> Plan {
     plan.threads[1] = 1;
     plan.places[0] = 0;
     plan.places[1] = 1;
-    plan.callers[0] = 0;
-    plan.callees[0] = 1;
+    plan.pairs[0] = edge(0, 1);
     plan.edges = 1;
     plan
 }
@@ -88,8 +94,7 @@ fn small_plan() -> Plan {
 // The same with a second edge.
 fn with_edge(caller: u8, callee: u8) -> Plan {
     let mut plan = small_plan();
-    plan.callers[1] = caller;
-    plan.callees[1] = callee;
+    plan.pairs[1] = edge(caller, callee);
     plan.edges = 2;
     plan
 }
@@ -105,8 +110,8 @@ fn with_strays() -> Plan {
     let mut plan = small_plan();
     plan.levels[2] = 9;
     plan.levels[63] = 200;
-    plan.callers[1] = 77;
-    plan.callees[255] = 5;
+    plan.pairs[1] = edge(77, 0);
+    plan.pairs[255] = edge(0, 5);
     plan
 }
 

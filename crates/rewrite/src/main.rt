@@ -2,10 +2,11 @@
 // nothing there, and the bench program's first line to standard error.
 #![tactic(auto)]
 
-use ids::{Node, Site};
+use model::Plan;
+use text::Page;
 
 // The records of the largest plan, and behind them the longest record: so that whatever stands there is seen whole.
-const MOST_BYTES: usize = 3 * Site::COUNT + 4 * Node::COUNT + 3 * Node::EDGES + 4;
+const MOST_BYTES: usize = Plan::FILE + 3;
 
 fn main(rt: HostRuntime) {
     let mut input = [0u8; MOST_BYTES];
@@ -13,7 +14,12 @@ fn main(rt: HostRuntime) {
     let read = plan::read(&input[..got]);
     if read.answer.is_err() {
         let mut line = [0u8; shown::LINE];
-        let end = shown::first_line(&mut line, 0, read);
+        let mut page = Page {
+            text: &mut line,
+            at: 0,
+        };
+        shown::first_line(&mut page, read);
+        let end = page.at;
         let _ = rt.stderr().write_all(&line[..end]);
         return;
     }

@@ -3,7 +3,7 @@
 
 use audit::check;
 use ids::{Level, Node, Site, Ticket};
-use model::{Admission, Highest, Plan, ReadFault, RoomRefused, SiteRefused};
+use model::{Admission, Edge, Highest, Plan, ReadFault, RoomRefused, SiteRefused};
 use std::io;
 
 // The count of each level where calls of these levels are active.
@@ -73,14 +73,20 @@ fn show_room(rt: &HostRuntime, threads: u8, active: &[u8], level: u8) -> io::Res
     }
 }
 
+fn edge(caller: u8, callee: u8) -> Edge {
+    Edge {
+        caller: Node(caller),
+        callee: Node(callee),
+    }
+}
+
 // Two sites of 2 threads; nodes 0 at site 0, 1 and 2 at site 1, 3 at site 0; edges 0 to 1 and 2 to 3; all levels 0 but that of node 2.
 fn two_sites(level: u8) -> Plan {
     let mut plan = record::empty();
     plan.threads[..2].copy_from_slice(&[2, 2]);
     plan.places[..4].copy_from_slice(&[0, 1, 1, 0]);
     plan.levels[..4].copy_from_slice(&[0, 0, level, 0]);
-    plan.callers[..2].copy_from_slice(&[0, 2]);
-    plan.callees[..2].copy_from_slice(&[1, 3]);
+    plan.pairs[..2].copy_from_slice(&[edge(0, 1), edge(2, 3)]);
     plan.edges = 2;
     plan
 }

@@ -35,9 +35,9 @@ module _ (p : Plan) (few : p.edges ≤ most_edges) where
   unfolding plan_file encode sites_bytes nodes_bytes edges_bytes
   file_parts =
       let count : min p.edges most_edges ≡ p.edges = omega arith in
-      sym (ap encode (records_each p ∙ ap (λ (k : ℕ). each (edge_at p.callers p.callees) k (its_nodes p)) count)
+      sym (ap encode (records_each p ∙ ap (λ (k : ℕ). each (edge_at p.pairs) k (its_nodes p)) count)
       ∙ ap (λ (bytes : List ℕ). bytes ++ (4 ∷ []))
-      (each_apart (edge_at p.callers p.callees) (its_nodes p) p.edges
+      (each_apart (edge_at p.pairs) (its_nodes p) p.edges
       ∙ ap (λ (bytes : List ℕ). bytes ++ edges_bytes p p.edges) (each_apart (node_at p.places p.levels) (its_sites p) nodes)))
 
   pub part_lengths : length (sites_bytes p sites) + length (nodes_bytes p nodes) + length (edges_bytes p p.edges) + 1 ≡ length (plan_file p)

@@ -11,7 +11,7 @@ use borrow.Author.Tests.{eq-eqb, ne_eqb}
 use Rattle.ids.specs.Limits.{sites, nodes}
 use Rattle.lists.proofs.CountLaws.{get_or_inside}
 use Rattle.model.specs.Plan.{Record, site, node, edge, bytes_of, records_bytes}
-use Rattle.model.specs.PlanValue.{nowhere, each, site_at, node_at, edge_at}
+use Rattle.model.specs.PlanValue.{pair_at, nowhere, each, site_at, node_at, edge_at}
 use Rattle.model.specs.Writing.{added}
 use Rattle.model.specs.declared.Plan.{Plan}
 use Rattle.model.proofs.FileLaws.{records_push, push-length, each_longer}
@@ -92,12 +92,12 @@ module _ (p : Plan) {old : List ℕ} {start : ℕ} where
 
   module _ (i : ℕ) {mid : List ℕ} {m : ℕ} (so_far : Put old start (edges_bytes p i) mid m) where
     abbrev its_edge : Record
-    its_edge = edge (get_or p.callers i 0) (get_or p.callees i 0)
+    its_edge = edge (pair_at p.pairs i).caller.0 (pair_at p.pairs i).callee.0
 
     pub edge_room : i < p.edges → start + length (edges_bytes p p.edges) ≤ length old → m + length (bytes_of its_edge) ≤ length mid
     unfolding edges_bytes
-    edge_room h room = room_next (edge_at p.callers p.callees) i so_far p.edges h room
+    edge_room h room = room_next (edge_at p.pairs) i so_far p.edges h room
 
     pub edge_more : {new : List ℕ} {to : ℕ} → Put mid m (bytes_of its_edge) new to → Put old start (edges_bytes p (i + 1)) new to
     unfolding edges_bytes
-    edge_more put = put_next (edge_at p.callers p.callees) i so_far put
+    edge_more put = put_next (edge_at p.pairs) i so_far put

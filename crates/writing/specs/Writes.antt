@@ -39,4 +39,4 @@ unfoldable pub nodes_bytes : Plan → ℕ → List ℕ
 nodes_bytes p k = records_bytes (node_records p.places p.levels k [])
 
 unfoldable pub edges_bytes : Plan → ℕ → List ℕ
-edges_bytes p k = records_bytes (edge_records p.callers p.callees k [])
+edges_bytes p k = records_bytes (edge_records p.pairs k [])

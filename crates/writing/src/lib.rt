@@ -2,16 +2,18 @@
 // written before it has passed its checks and the buffer is long enough.
 #![tactic(auto)]
 
-ghost use Rattle.std.specs.Prelude.{◌+◌, ◌≤◌, ◌≡◌, eqb, length};
+ghost use Rattle.std.specs.Prelude.{◌≤◌, ◌≡◌, eqb, length};
 ghost use Rattle.ids.specs.Limits.{sites, nodes, most_edges};
 ghost use Rattle.model.specs.PlanFault.{plan_fault};
 ghost use Rattle.model.specs.Writing.{plan_file};
-ghost use Rattle.text.specs.Put.{Put};
+ghost use Rattle.text.specs.Put.{Puts};
+ghost use Rattle.text.specs.Room.{HasRoom};
 ghost use Rattle.writing.specs.Writes.{Writes, write_refusal, record_bytes, sites_bytes, nodes_bytes, edges_bytes};
 ghost use Rattle.writing.specs.declared.WriteRefusal.{WriteRefusal};
 
 use ids::{Level, Node, Site};
 use model::{Plan, PlanRecord};
+use text::Page;
 
 // Why nothing was written.
 #[derive(Clone, Copy, PartialEq, Eq)]
@@ -63,89 +65,73 @@ fn file_length(plan: Plan) -> usize
     3 * sites + 4 * nodes + 3 * plan.edges + 1
 }
 
-// Some bytes, and the place behind them.
-fn put<'a>(buffer: &'a mut [u8], at: usize, bytes: &'a [u8]) -> usize
-    requires { at + length bytes.now ≤ length buffer.old }
-    ensures { Put buffer.old at bytes.now buffer.new result }
-{
-    let end = at + bytes.len();
-    buffer[at..end].copy_from_slice(bytes);
-    end
-}
-
 // A record's bytes.
-fn put_record(buffer: &mut [u8], at: usize, next: PlanRecord) -> usize
-    requires { at + length (record_bytes next) ≤ length buffer.old }
-    ensures { Put buffer.old at (record_bytes next) buffer.new result }
+fn put_record<'a>(page: &mut Page<'a>, next: PlanRecord)
+    requires { HasRoom page.old (length (record_bytes next)) }
+    ensures same_reference { page.new.text.ghost_name ≡ page.old.text.ghost_name }
+    ensures put { Puts page.old (record_bytes next) page.new }
 {
     match next {
-        PlanRecord::Site(site, threads) => put(buffer, at, &[SITE, site.0, threads]),
-        PlanRecord::Node(node, site, level) => put(buffer, at, &[NODE, node.0, site.0, level.0]),
-        PlanRecord::Edge(caller, callee) => put(buffer, at, &[EDGE, caller.0, callee.0]),
-        PlanRecord::End => put(buffer, at, &[END]),
+        PlanRecord::Site(site, threads) => page.puts(&[SITE, site.0, threads]),
+        PlanRecord::Node(node, site, level) => page.puts(&[NODE, node.0, site.0, level.0]),
+        PlanRecord::Edge(caller, callee) => page.puts(&[EDGE, caller.0, callee.0]),
+        PlanRecord::End => page.puts(&[END]),
     }
 }
 
 // The site records.
-fn put_sites(buffer: &mut [u8], plan: Plan) -> usize
-    requires { length (sites_bytes plan sites) ≤ length buffer.old }
-    ensures { Put buffer.old 0 (sites_bytes plan sites) buffer.new result }
+fn put_sites<'a>(page: &mut Page<'a>, plan: &Plan)
+    requires { HasRoom page.old (length (sites_bytes plan.now sites)) }
+    ensures same_reference { page.new.text.ghost_name ≡ page.old.text.ghost_name }
+    ensures put { Puts page.old (sites_bytes plan.now sites) page.new }
 {
-    let mut at = 0;
     for s in 0..Site::COUNT {
         let threads = plan.threads[s];
         if threads != 0 {
-            at = put_record(buffer, at, PlanRecord::Site(Site(s as u8), threads));
+            put_record(page, PlanRecord::Site(Site(s as u8), threads));
         }
     }
-    at
 }
 
 // The node records.
-fn put_nodes(buffer: &mut [u8], start: usize, plan: Plan) -> usize
-    requires { start + length (nodes_bytes plan nodes) ≤ length buffer.old }
-    ensures { Put buffer.old start (nodes_bytes plan nodes) buffer.new result }
+fn put_nodes<'a>(page: &mut Page<'a>, plan: &Plan)
+    requires { HasRoom page.old (length (nodes_bytes plan.now nodes)) }
+    ensures same_reference { page.new.text.ghost_name ≡ page.old.text.ghost_name }
+    ensures put { Puts page.old (nodes_bytes plan.now nodes) page.new }
 {
-    let mut at = start;
     for n in 0..Node::COUNT {
         let place = plan.places[n];
         if place != Plan::NOWHERE {
             let level = Level(plan.levels[n]);
-            at = put_record(
-                buffer,
-                at,
-                PlanRecord::Node(Node(n as u8), Site(place), level),
-            );
+            put_record(page, PlanRecord::Node(Node(n as u8), Site(place), level));
         }
     }
-    at
 }
 
 // The edge records.
-fn put_edges(buffer: &mut [u8], start: usize, plan: Plan) -> usize
-    requires { (plan.edges ≤ most_edges) × (start + length (edges_bytes plan plan.edges) ≤ length buffer.old) }
-    ensures { Put buffer.old start (edges_bytes plan plan.edges) buffer.new result }
+fn put_edges<'a>(page: &mut Page<'a>, plan: &Plan)
+    requires few { plan.now.edges ≤ most_edges }
+    requires room { HasRoom page.old (length (edges_bytes plan.now plan.now.edges)) }
+    ensures same_reference { page.new.text.ghost_name ≡ page.old.text.ghost_name }
+    ensures put { Puts page.old (edges_bytes plan.now plan.now.edges) page.new }
 {
-    let mut at = start;
     for i in 0..plan.edges {
-        at = put_record(
-            buffer,
-            at,
-            PlanRecord::Edge(Node(plan.callers[i]), Node(plan.callees[i])),
-        );
+        let pair = plan.pairs[i];
+        put_record(page, PlanRecord::Edge(pair.caller, pair.callee));
     }
-    at
 }
 
 // The whole file.
-fn put_file(buffer: &mut [u8], plan: Plan) -> usize
-    requires { (plan.edges ≤ most_edges) × (length (plan_file plan) ≤ length buffer.old) }
-    ensures { Put buffer.old 0 (plan_file plan) buffer.new result }
+fn put_file<'a>(page: &mut Page<'a>, plan: &Plan)
+    requires few { plan.now.edges ≤ most_edges }
+    requires room { HasRoom page.old (length (plan_file plan.now)) }
+    ensures same_reference { page.new.text.ghost_name ≡ page.old.text.ghost_name }
+    ensures put { Puts page.old (plan_file plan.now) page.new }
 {
-    let sites = put_sites(buffer, plan);
-    let nodes = put_nodes(buffer, sites, plan);
-    let end = put_edges(buffer, nodes, plan);
-    put_record(buffer, end, PlanRecord::End)
+    put_sites(page, plan);
+    put_nodes(page, plan);
+    put_edges(page, plan);
+    put_record(page, PlanRecord::End);
 }
 
 // Writes a plan's file into the front of a buffer and answers its length. What stands behind it stays, and a refusal leaves the whole buffer as it was.
@@ -158,5 +144,10 @@ pub fn write(plan: Plan, buffer: &mut [u8]) -> Result<usize, WriteRefusal>
     if buffer.len() < file_length(plan) {
         return Err(WriteRefusal::ShortBuffer);
     }
-    Ok(put_file(buffer, plan))
+    let mut page = Page {
+        text: buffer,
+        at: 0,
+    };
+    put_file(&mut page, &plan);
+    Ok(page.at)
 }

@@ -11,26 +11,26 @@ use Rattle.writing.proofs.put_record.Goals as goal
 long : {r q : PlanRecord} → r ≡ q → length (record_bytes r) ≡ length (record_bytes q)
 long e = ap (λ (r : PlanRecord). length (record_bytes r)) e
 
-pub put-requires : goal.put-requires
+pub puts-requires : goal.puts-requires
 unfolding bytes_of
-put-requires c = omega (arith, c.requires, long c.in-Site.is)
+puts-requires c = omega (arith, c.requires, long c.in-Site.is)
 
-pub put-requires-in-Node : goal.put-requires-in-Node
+pub puts-requires-in-Node : goal.puts-requires-in-Node
 unfolding bytes_of
-put-requires-in-Node c = omega (arith, c.requires, long c.in-Node.is)
+puts-requires-in-Node c = omega (arith, c.requires, long c.in-Node.is)
 
-pub put-requires-in-Edge : goal.put-requires-in-Edge
+pub puts-requires-in-Edge : goal.puts-requires-in-Edge
 unfolding bytes_of
-put-requires-in-Edge c = omega (arith, c.requires, long c.in-Edge.is)
+puts-requires-in-Edge c = omega (arith, c.requires, long c.in-Edge.is)
 
-pub returns-in-Site : goal.returns-in-Site
+pub returns-in-Site-clause-put : goal.returns-in-Site-clause-put
 unfolding bytes_of
-returns-in-Site c = put_as (sym (ap record_bytes c.in-Site.is)) c.put.ensures
+returns-in-Site-clause-put c = put_as (sym (ap record_bytes c.in-Site.is)) c.puts.ensures.put
 
-pub returns-in-Node : goal.returns-in-Node
+pub returns-in-Node-clause-put : goal.returns-in-Node-clause-put
 unfolding bytes_of
-returns-in-Node c = put_as (sym (ap record_bytes c.in-Node.is)) c.put-in-Node.ensures
+returns-in-Node-clause-put c = put_as (sym (ap record_bytes c.in-Node.is)) c.puts-in-Node.ensures.put
 
-pub returns-in-Edge : goal.returns-in-Edge
+pub returns-in-Edge-clause-put : goal.returns-in-Edge-clause-put
 unfolding bytes_of
-returns-in-Edge c = put_as (sym (ap record_bytes c.in-Edge.is)) c.put-in-Edge.ensures
+returns-in-Edge-clause-put c = put_as (sym (ap record_bytes c.in-Edge.is)) c.puts-in-Edge.ensures.put

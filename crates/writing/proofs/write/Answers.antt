@@ -1,5 +1,6 @@
 -- `writing::write` meets its contract: the plan is asked, then the buffer's length, and then the file stands in front of the buffer. Assumes nothing.
 use native.Mathlib.Omega.{arith}
+use Rattle.std.proofs.Common.{rules}
 use Prim.Native.Nat.{◌≤◌}
 use mathlib.Core.Path.{◌≡◌, sym, ◌∙◌}
 use mathlib.Core.Bool.{Bool, true, false}
@@ -34,9 +35,9 @@ returns-then-buffer-file_length c =
     short_answers c.args.plan c.args.buffer.now (no_fault c.args.plan c.sound.ensures c.if-not-sound.false) (omega (arith, c.file_length.ensures))
 
 pub put_file-requires : goal.put_file-requires
-put_file-requires c = (few c.args.plan c.sound.ensures c.if-not-sound.false, omega (arith, c.file_length.ensures))
+put_file-requires c = record { few = few c.args.plan c.sound.ensures c.if-not-sound.false; room = omega (arith, c.file_length.ensures) }
 
 pub returns : goal.returns
 returns c =
     file_answers c.args.plan c.args.buffer.now (no_fault c.args.plan c.sound.ensures c.if-not-sound.false) (omega (arith, c.file_length.ensures))
-    c.put_file.ensures
+    (search (rules, c.put_file.ensures.put))
