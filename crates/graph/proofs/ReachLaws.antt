@@ -1,18 +1,21 @@
 -- How what is reached from some nodes is gathered: of what is found each node has been looked at, so that its row is found too, or is still to be. In the end
 -- nothing is left to be looked at, and no path leads out of what is found. Each turn looks at one node, and what it finds is in neither set before, so that
 -- what is not found and what is to be looked at, as one sum, falls. Assumes nothing.
-use Prim.Native.Nat.{ℕ, ◌+◌, ◌-◌, ◌^◌, ◌<◌, ◌≤◌}
+use Prim.Native.Nat.{zero-le, ℕ, ◌+◌, ◌-◌, ◌^◌, ◌<◌, ◌≤◌}
 use native.Mathlib.Nat.{lt_trans}
 use native.Mathlib.Omega.{arith}
 use mathlib.Core.Path.{◌≡◌, refl, sym, ap, ◌∙◌, subst}
-use mathlib.Core.Logic.{◌⊎◌, inl, inr, ⊎_elim}
+use mathlib.Core.Logic.{◌↔◌, ◌⊎◌, inl, inr, ⊎_elim}
 use mathlib.Core.Bool.{Bool, true, false, not, ◌&&◌}
 use mathlib.Core.List.{List}
 use lib.Bits.{bit_or, or_add_and, or_disjoint, or_lt}
 use lib.Dec.{T}
 use lib.ListN.{length, get_or, get_or-eq_default}
+use Rattle.std.specs.Bool.{MatchBool}
+use Rattle.std.specs.List.{range_with_len, AllWithin, HoldsAt}
+use Rattle.std.proofs.lemmas.List.FromFn.{get_or-range_with_len}
 use Rattle.ids.specs.Limits.{nodes}
-use Rattle.lists.proofs.CountLaws.{lt_or_ge, same_test}
+use Rattle.lists.proofs.CountLaws.{never_both, lt_or_ge, same_test}
 use Rattle.model.specs.Graph.{Reach, stay, go}
 use Rattle.model.proofs.GraphLaws.{yes, is_true, reach_join}
 use Rattle.words.specs.Words.{member, least, without_least, difference}
@@ -168,13 +171,13 @@ abbrev pub NotClosed : List ℕ → List ℕ → ℕ → Type 0
 NotClosed edges paths n = (m : ℕ) → T (linked edges n m) → Reach (linked paths) m n → ⊥
 
 module _ (edges paths : List ℕ) (n word : ℕ) (all : ReachedFrom paths (get_or edges n 0) word) where
-  pub closed_here : member word n ≡ true → ClosedBack edges paths
+  pub closed_here : true ≡ member word n → ClosedBack edges paths
   unfolding linked
-  closed_here e = let path = all.sound n (yes e) in (n, path.0, path.1, path.2)
+  closed_here e = let path = all.sound n (yes (sym e)) in (n, path.0, path.1, path.2)
 
-  pub open_here : member word n ≡ false → NotClosed edges paths n
+  pub open_here : false ≡ member word n → NotClosed edges paths n
   unfolding linked
-  open_here e m edge path = subst T e (all.complete m n edge path)
+  open_here e m edge path = subst T (sym e) (all.complete m n edge path)
 
 -- past the rows there is no edge
 pub none_closed : (edges paths : List ℕ) → length edges ≡ nodes → ((n : ℕ) → n < nodes → NotClosed edges paths n) → ClosedBack edges paths → ⊥
@@ -185,3 +188,19 @@ none_closed edges paths long each (n, m, edge, path) =
     (λ (p : nodes ≤ n).
     subst T (ap (λ (w : ℕ). member w m) (get_or-eq_default edges 0 {n = n} (omega (arith, long))) ∙ member_zero m) edge)
     (lt_or_ge n nodes)
+
+-- each node has been asked
+pub each_asked : (edges paths : List ℕ) → length edges ≡ nodes → (answer : Bool)
+    → MatchBool answer ((k : ℕ) × (k < length (range_with_len 0 nodes)) × HoldsAt (λ (n : ℕ). ClosedBack edges paths) (range_with_len 0 nodes) k)
+    (AllWithin (NotClosed edges paths) (range_with_len 0 nodes) 0 (length (range_with_len 0 nodes)))
+    → (answer ≡ true) ↔ ClosedBack edges paths
+each_asked edges paths long true found = ((λ e. found.2 0), (λ w. refl))
+each_asked edges paths long false none = (
+  (λ e. absurd (never_both e refl)),
+  (λ w. absurd (none_closed edges paths long each w)),
+)
+  where
+    each : (n : ℕ) → n < nodes → NotClosed edges paths n
+    each n h =
+        let place : get_or (range_with_len 0 nodes) n 0 ≡ n = omega (arith, get_or-range_with_len 0 nodes n 0 h) in
+        subst (NotClosed edges paths) place (none n 0 zero-le h)

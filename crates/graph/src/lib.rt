@@ -14,6 +14,7 @@ pub fn reached(paths: &Rows, from: u64) -> u64
 {
     let mut found = from;
     let mut todo = from;
+    // kept: the set grows while it is stepped through by its trailing zeros, as document 01 has it.
     while todo != 0 {
         let row = paths.rows[words::lowest(todo)];
         let fresh = words::minus(row, found);
@@ -27,10 +28,6 @@ pub fn reached(paths: &Rows, from: u64) -> u64
 pub fn circular(edges: &Rows, paths: &Rows) -> bool
     ensures { (result ≡ true) ↔ ClosedBack edges.now.rows paths.now.rows }
 {
-    for n in 0..Node::COUNT {
-        if words::has(reached(paths, edges.rows[n]), n as u8) {
-            return true;
-        }
-    }
-    false
+    let rows = &edges.rows;
+    (0..Node::COUNT).any(|n| words::has(reached(paths, rows[n]), n as u8))
 }

@@ -1,26 +1,16 @@
--- `graph::circular` meets its contract. The loop's invariant: no edge of the nodes below n is closed backwards. Assumes nothing.
-use native.Mathlib.Omega.{arith}
-use mathlib.Core.Path.{refl, sym, ◌∙◌}
-use borrow.Author.Count.{below_more}
-use Rattle.lists.proofs.CountLaws.{never_both}
-use Rattle.graph.proofs.ReachLaws.{NotClosed, closed_here, open_here, none_closed}
+-- `graph::circular` meets its contract: the nodes are asked in turn, and where none is closed backwards no edge is. Assumes nothing.
+use mathlib.Core.Path.{refl}
+use borrow.Author.Rules.{rules}
+use Rattle.std.proofs.lemmas.Iterator.{cases_from_any, YieldsList-from_range}
+use Rattle.ids.specs.Limits.{nodes}
+use Rattle.graph.specs.Reached.{ClosedBack}
+use Rattle.graph.proofs.ReachLaws.{NotClosed, closed_here, open_here, each_asked}
 use Rattle.graph.proofs.circular.Goals as goal
 
-pub returns-then-has : goal.returns-then-has
-returns-then-has c = let a = c.args in
-    let found =
-    closed_here a.edges.now.rows a.paths.now.rows c.loop-n.n c.reached.result c.reached.ensures
-    (sym c.has.ensures ∙ c.if-has.true) in
-    ((λ e. found), (λ w. refl))
-
-pub loop-n-preserved : goal.loop-n-preserved
-loop-n-preserved c = let a = c.args in
-    let here =
-    open_here a.edges.now.rows a.paths.now.rows c.loop-n.n c.reached.result c.reached.ensures
-    (sym c.has.ensures ∙ c.if-has.false) in
-    below_more (NotClosed a.edges.now.rows a.paths.now.rows) c.loop-n.n c.loop-n.invariant here
-
 pub returns : goal.returns
-returns c = let a = c.args in
-    let never = none_closed a.edges.now.rows a.paths.now.rows (omega arith) (λ n h. c.loop-n.invariant n (omega arith)) in
-    ((λ e. absurd (never_both e refl)), (λ w. absurd (never w)))
+returns c = let edges = c.args.edges.now.rows in
+    let paths = c.args.paths.now.rows in
+    each_asked edges paths (search rules) c.any.result
+    (cases_from_any _ _ c.any.result (λ n. ClosedBack edges paths) (NotClosed edges paths) c.any.ensures.ran (YieldsList-from_range 0 nodes nodes refl refl)
+    (λ x q k. search (rules, closed_here))
+    (λ x q k. (search rules, search (rules, open_here))))
