@@ -12,6 +12,7 @@ use Rattle.model.specs.Transcript.{command_kinds}
 use Rattle.model.proofs.HouseLaws.{whole_length}
 use Rattle.moves.specs.Held.{Arrays}
 use Rattle.text.specs.Room.{line_room}
+use Rattle.text.specs.declared.Page.{Page}
 use Rattle.text.proofs.PutLaws.{put_then}
 use Rattle.decode.specs.Asked.{request_at, request_from}
 use Rattle.decode.specs.declared.Request.{Request}
@@ -50,12 +51,12 @@ module _ {first : Core} {used : ℕ} {most-of places levels edges bytes : List �
       → RunStands first a used most-of places levels edges bytes from from 0 old old 0
   begins run = record { net = first; lines = []; went = nowhere; runs_on = run; written = record { written = refl; end_is = refl; inside = omega arith } }
 
-  pub goes_on : {b d : Arrays} {at commands : ℕ} {new newer : List ℕ} {to next-to next-used : ℕ} (request : Request) (behind : ℕ)
-      → (on : RunStands first b used most-of places levels edges bytes from at commands old new to)
-      → to + line_room ≤ length old → Ok (request, behind) ≡ request_at bytes at
-      → Turned on.net request d next-used most-of places levels edges new to newer next-to
-      → RunStands first d next-used most-of places levels edges bytes from behind (commands + 1) old newer next-to
-  goes_on request behind on room found turned =
+  pub goes_on : {b d : Arrays} {at commands next-used : ℕ} (page next-page : Page) (request : Request) (behind : ℕ)
+      → (on : RunStands first b used most-of places levels edges bytes from at commands old page.text.now page.at)
+      → page.at + line_room ≤ length old → Ok (request, behind) ≡ request_at bytes at
+      → Turned on.net request d next-used most-of places levels edges page next-page
+      → RunStands first d next-used most-of places levels edges bytes from behind (commands + 1) old next-page.text.now next-page.at
+  goes_on page next-page request behind on room found turned =
       record {
         net = _;
         lines = _;

@@ -11,6 +11,7 @@ use decode::Unread;
 use links::Rows;
 use model::Plan;
 use moves::Running;
+use text::Page;
 
 // Why a run stops.
 #[derive(Clone, Copy, PartialEq, Eq)]
@@ -61,24 +62,24 @@ pub fn run(
     requires { Answerable (arrays_of running.old) running.old.table.used plan.now.threads plan.now.places plan.now.levels edges.now.rows }
     ensures { ArraysRun (arrays_of running.old) (arrays_of running.new) running.old.table.used running.new.table.used result plan.now.threads plan.now.places plan.now.levels edges.now.rows bytes.now from text.old text.new }
 {
+    let mut page = Page { text, at: 0 };
     let mut at = from;
-    let mut to = 0;
     let mut commands = 0;
     let why = loop {
-        if text.len() - to < LINE {
+        if page.text.len() - page.at < LINE {
             break Stop::Full;
         }
         let (request, behind) = match decode::next_request(bytes, at) {
             Ok(found) => found,
             Err(unread) => break Stop::from(unread),
         };
-        to = turns::turn(running, plan, edges, text, to, request);
+        turns::turn(running, plan, edges, &mut page, request);
         at = behind;
         commands += 1;
     };
     Ran {
         at,
-        to,
+        to: page.at,
         commands,
         why,
     }

@@ -8,7 +8,8 @@ use Rattle.model.specs.Transcript as transcript
 use Rattle.model.specs.Transcript.{command, question, room_question, line, after}
 use Rattle.moves.specs.Held.{Arrays}
 use Rattle.text.specs.Lines.{Shown, of_answer, of_standing, of_room, line_text, line2_text}
-use Rattle.text.specs.Put.{Put}
+use Rattle.text.specs.Put.{Puts}
+use Rattle.text.specs.declared.Page.{Page}
 use Rattle.decode.specs.Asked.{asked}
 use Rattle.decode.specs.declared.Request.{Request}
 use Rattle.steps.specs.Running.{Running}
@@ -45,11 +46,10 @@ Answers a b used used-after what most-of places levels edges request =
 -- A turn
 
 -- the net after it, and its line behind what was written
-pub record Turned (net : Core) (request : Request) (b : Arrays) (used : ℕ) (most-of places levels edges old : List ℕ) (at : ℕ) (new : List ℕ)
-    (to : ℕ) : Type 0 where
+pub record Turned (net : Core) (request : Request) (b : Arrays) (used : ℕ) (most-of places levels edges : List ℕ) (old new : Page) : Type 0 where
   pub runs_on : Running (after net (asked request)) b used most-of places levels edges
-  pub written : Put old at (line net (asked request)) new to
+  pub written : Puts old (line net (asked request)) new
 
-abbrev pub Turns : Arrays → Arrays → ℕ → ℕ → List ℕ → List ℕ → List ℕ → List ℕ → Request → List ℕ → ℕ → List ℕ → ℕ → Type 0
-Turns a b used used-after most-of places levels edges request old at new to =
-    (net : Core) → Running net a used most-of places levels edges → Turned net request b used-after most-of places levels edges old at new to
+abbrev pub Turns : Arrays → Arrays → ℕ → ℕ → List ℕ → List ℕ → List ℕ → List ℕ → Request → Page → Page → Type 0
+Turns a b used used-after most-of places levels edges request old new =
+    (net : Core) → Running net a used most-of places levels edges → Turned net request b used-after most-of places levels edges old new

@@ -1,9 +1,9 @@
 // One turn of a run: a request answered, and its line written. An inner crate: the library's own crates alone call it.
 #![tactic(auto)]
 
-ghost use Rattle.std.specs.Prelude.{◌+◌, ◌≤◌, length};
-ghost use Rattle.text.specs.Put.{Put};
-ghost use Rattle.text.specs.Room.{line_room};
+ghost use Rattle.std.specs.Prelude.{◌≡◌};
+ghost use Rattle.text.specs.Put.{Puts};
+ghost use Rattle.text.specs.Room.{line_room, HasRoom};
 ghost use Rattle.text.specs.Lines.{shown_told};
 ghost use Rattle.moves.specs.Held.{arrays_of};
 ghost use Rattle.turns.specs.Turn.{request_line, Answerable, Answers, Turns};
@@ -12,24 +12,21 @@ use decode::Request;
 use links::Rows;
 use model::{Plan, Refusal};
 use moves::Running;
-use text::Printed;
+use text::{Page, Printed};
 
 // The line of a request and its answer.
-fn print(text: &mut [u8], at: usize, request: Request, what: Result<Printed, Refusal>) -> usize
-    requires { at + line_room ≤ length text.old }
-    ensures { Put text.old at (request_line request (shown_told what)) text.new result }
+fn print<'a>(page: &mut Page<'a>, request: Request, what: Result<Printed, Refusal>)
+    requires { HasRoom page.old line_room }
+    ensures same_reference { page.new.text.ghost_name ≡ page.old.text.ghost_name }
+    ensures put { Puts page.old (request_line request (shown_told what)) page.new }
 {
     match request {
-        Request::Start(_, ticket) => text::line(text, at, b'S', ticket, None, what),
-        Request::Call(_, parent, ticket) => {
-            text::line(text, at, b'C', parent, Some(ticket), what)
-        }
-        Request::Return(ticket) => text::line(text, at, b'E', ticket, None, what),
-        Request::Ask(ticket) => text::line(text, at, b'Q', ticket, None, what),
-        Request::TakeBack(ticket) => text::line(text, at, b'X', ticket, None, what),
-        Request::Room(site, level) => {
-            text::line(text, at, b'M', site as u16, Some(level as u16), what)
-        }
+        Request::Start(_, ticket) => page.line(b'S', ticket, None, what),
+        Request::Call(_, parent, ticket) => page.line(b'C', parent, Some(ticket), what),
+        Request::Return(ticket) => page.line(b'E', ticket, None, what),
+        Request::Ask(ticket) => page.line(b'Q', ticket, None, what),
+        Request::TakeBack(ticket) => page.line(b'X', ticket, None, what),
+        Request::Room(site, level) => page.line(b'M', site as u16, Some(level as u16), what),
     }
 }
 
@@ -55,18 +52,19 @@ pub fn answer(
     }
 }
 
-// A turn; answers the place behind the line, which has room.
-pub fn turn(
+// A turn, whose line has room.
+pub fn turn<'a>(
     running: &mut Running,
     plan: &Plan,
     edges: &Rows,
-    text: &mut [u8],
-    at: usize,
+    page: &mut Page<'a>,
     request: Request,
-) -> usize
-    requires { Answerable (arrays_of running.old) running.old.table.used plan.now.threads plan.now.places plan.now.levels edges.now.rows × (at + line_room ≤ length text.old) }
-    ensures { Turns (arrays_of running.old) (arrays_of running.new) running.old.table.used running.new.table.used plan.now.threads plan.now.places plan.now.levels edges.now.rows request text.old at text.new result }
+)
+    requires net { Answerable (arrays_of running.old) running.old.table.used plan.now.threads plan.now.places plan.now.levels edges.now.rows }
+    requires room { HasRoom page.old line_room }
+    ensures same_reference { page.new.text.ghost_name ≡ page.old.text.ghost_name }
+    ensures turned { Turns (arrays_of running.old) (arrays_of running.new) running.old.table.used running.new.table.used plan.now.threads plan.now.places plan.now.levels edges.now.rows request page.old page.new }
 {
     let what = answer(running, plan, edges, request);
-    print(text, at, request, what)
+    print(page, request, what);
 }

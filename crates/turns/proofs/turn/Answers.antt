@@ -4,7 +4,7 @@ use Rattle.text.proofs.PutLaws.{put_as}
 use Rattle.turns.proofs.AnswerLaws.{line_said}
 use Rattle.turns.proofs.turn.Goals as goal
 
-pub returns : goal.returns
-returns c = λ net run.
+pub returns-clause-turned : goal.returns-clause-turned
+returns-clause-turned c = λ net run.
     let said = c.answer-what.ensures net run in
-    record { runs_on = said.runs_on; written = put_as (sym (line_said said)) c.print.ensures }
+    record { runs_on = said.runs_on; written = put_as (sym (line_said said)) c.print.ensures.put }
