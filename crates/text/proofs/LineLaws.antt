@@ -1,7 +1,7 @@
 -- The texts that are put are the model's: each answer's by its kind, and each command's line by its letter. Assumes nothing.
 use Prim.Native.Nat.{ℕ}
 use mathlib.Core.Path.{◌≡◌, refl, ap, ◌∙◌}
-use mathlib.Core.List.{[], ◌∷◌, ◌++◌, append_assoc}
+use mathlib.Core.List.{◌∷◌, ◌++◌, append_assoc}
 use Rattle.model.specs.Command.{start, call, return, take_back, Answer, refused, active, waiting, ended, step}
 use Rattle.model.specs.Command.{Standing, is-running, is-waiting, not_open, ask, Roomed, has_room, room_refused, room_at}
 use Rattle.model.specs.Net.{Core}

@@ -4,6 +4,7 @@ use Rattle.model.specs.Command.{Answer, refused, active, waiting, ended, Standin
 use Rattle.model.specs.Text.{Text, digit, spaced, refusal_text, newline}
 use Rattle.model.specs.Refusal.{refusal_told}
 use Rattle.model.specs.declared.Refusal.{Refusal}
+use Rattle.text.specs.declared.BadInput.{BadInput}
 use Rattle.text.specs.declared.Printed.{Printed}
 
 -- what stands on a line for an answer: a letter, a number, `R` and a refusal's number, or `W` and a level
@@ -42,6 +43,11 @@ of_standing not_open = a_letter 78
 abbrev pub of_room : Roomed → Shown
 of_room (has_room n) = a_number n
 of_room (room_refused n) = a_refusal n
+
+-- "`bad`, 1 (cut) or 2 (unknown kind)"
+abbrev pub bad_number : BadInput → ℕ
+bad_number BadInput.Cut = 1
+bad_number BadInput.Unknown = 2
 
 -- the two digits of a number below 100, the first a 0 where it is below 10
 unfoldable pub pair_text : ℕ → Text

@@ -4,11 +4,12 @@
 
 ghost use Rattle.std.specs.Prelude.{◌+◌, ◌≤◌, ◌<◌, ◌≡◌, [], ◌∷◌, length};
 ghost use Rattle.model.specs.Text.{decimal, spaced, plan_line, plan_refused_line, done_line, bad_line};
+ghost use Rattle.model.specs.PlanValue.{refusal_number};
 ghost use Rattle.text.specs.Put.{Puts};
-ghost use Rattle.text.specs.Lines.{pair_text, printed, answer_end, accepted_told, shown_told, asked_text};
+ghost use Rattle.text.specs.Lines.{bad_number, pair_text, printed, answer_end, accepted_told, shown_told, asked_text};
 ghost use Rattle.text.specs.Room.{number_room, long_room, said_room, answer_room, line_room, plan_room, plan_refused_room, done_room, bad_room, HasRoom};
 
-use model::Refusal;
+use model::{ReadFault, Refusal};
 
 // What an answer says, where it is no refusal.
 #[derive(Clone, Copy, PartialEq, Eq)]
@@ -23,6 +24,26 @@ pub enum Printed {
     Absent,
     // A return's ticket, or a room.
     Number(u16),
+}
+
+// Why an input is bad.
+#[derive(Clone, Copy, PartialEq, Eq)]
+pub enum BadInput {
+    // It ends inside a record.
+    Cut,
+    // A record has no known kind.
+    Unknown,
+}
+
+impl From<BadInput> for u8 {
+    ghost from_gives = { λ why number. number ≡ bad_number why };
+
+    fn from(why: BadInput) -> u8 {
+        match why {
+            BadInput::Cut => 1,
+            BadInput::Unknown => 2,
+        }
+    }
 }
 
 // The digit 0.
@@ -222,14 +243,14 @@ impl<'a> Page<'a> {
     }
 
     // The first line, of a plan that is refused.
-    pub fn plan_refused_line(&mut self, refusal: u8, offset: usize)
+    pub fn plan_refused_line(&mut self, fault: ReadFault)
         requires { HasRoom self.old plan_refused_room }
         ensures same_reference { self.new.text.ghost_name ≡ self.old.text.ghost_name }
-        ensures put { Puts self.old (plan_refused_line refusal offset) self.new }
+        ensures put { Puts self.old (plan_refused_line (refusal_number fault.why) fault.offset) self.new }
     {
         self.puts(b"plan R");
-        self.number(refusal as u16);
-        self.long_number(offset);
+        self.number(u8::from(fault.why) as u16);
+        self.long_number(fault.offset);
         self.put(b'\n');
     }
 
@@ -245,13 +266,13 @@ impl<'a> Page<'a> {
     }
 
     // The last line, of an input that is cut or has a record of no known kind.
-    pub fn bad_line(&mut self, why: u8, offset: usize)
+    pub fn bad_line(&mut self, why: BadInput, offset: usize)
         requires { HasRoom self.old bad_room }
         ensures same_reference { self.new.text.ghost_name ≡ self.old.text.ghost_name }
-        ensures put { Puts self.old (bad_line why offset) self.new }
+        ensures put { Puts self.old (bad_line (bad_number why) offset) self.new }
     {
         self.puts(b"bad");
-        self.number(why as u16);
+        self.number(u8::from(why) as u16);
         self.long_number(offset);
         self.put(b'\n');
     }

@@ -1,5 +1,4 @@
 -- `Page::answer` meets its contract: the newline has room behind any answer, and ends its line. Assumes nothing.
-use native.Mathlib.Omega.{arith}
 use Rattle.text.specs.Lines.{answer_end}
 use Rattle.text.specs.Room.{said_room}
 use Rattle.text.proofs.PutLaws.{put_then, room_left}
