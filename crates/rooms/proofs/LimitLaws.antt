@@ -1,5 +1,5 @@
 -- The lowest full level as a minimum over all levels: once it has been passed it is the minimum so far, and before that the threads are. Assumes nothing.
-use Prim.Native.Nat.{ℕ, ◌+◌, ◌≤◌, ◌<◌, min}
+use Prim.Native.Nat.{ℕ, zero, suc, ◌+◌, ◌≤◌, ◌<◌, min}
 use native.Mathlib.Omega.{arith}
 use mathlib.Core.Path.{◌≡◌, refl, sym, ap, ◌∙◌}
 use mathlib.Core.Logic.{◌⊎◌, inl, inr, ⊎_elim}
@@ -9,7 +9,7 @@ use lib.ListN.{get_or}
 use lib.Dec.{eqb}
 use borrow.Author.Tests.{ne_eqb}
 use Rattle.ids.specs.Limits.{most_threads}
-use Rattle.lists.specs.Count.{first}
+use Rattle.lists.specs.Count.{first, last}
 use Rattle.lists.proofs.CountLaws.{true_or_false, lt_or_ge, never_both, first_holds, first_before, first_is, first_none}
 use Rattle.lists.proofs.BlockLaws.{first_passed, first_here}
 use Rattle.rooms.specs.Rooms.{no_room, Limited}
@@ -95,3 +95,14 @@ module _ (rooms : List ℕ) (base threads : ℕ) (fit : Limited rooms base threa
       w.ahead (omega (arith, w.inside))
       ∙ sym (first_none threads (no_room rooms base) (λ j l. first_before most_threads (no_room rooms base) j (omega (arith, fit.threads_most)))))
       (lt_or_ge (lowest rooms base) most_threads)
+
+-- with at most one number below the bound the greatest is 0
+pub last_low : (k : ℕ) (f : ℕ → Bool) → k ≤ 1 → last k f ≡ 0
+unfolding last
+last_low zero f h = refl
+last_low (suc zero) f h = go (f 0)
+  where
+    go : (b : Bool) → ◌≡◌ {A = ℕ} (cond b 0 0) 0
+    go true = refl
+    go false = refl
+last_low (suc (suc k)) f h = absurd (omega arith)

@@ -1,6 +1,11 @@
 -- What the rooms in an array say, for the contracts of `rooms`. The room of level k of a site stands at `base + k`. Assumes nothing.
-use Rattle.std.specs.Prelude.{ℕ, ◌+◌, ◌-◌, ◌≤◌, ◌<◌, Bool, List, length, get_or, eqb}
-use Rattle.ids.specs.Limits.{most_threads}
+use Rattle.std.specs.Prelude.{ℕ, ◌+◌, ◌-◌, ◌*◌, ◌≤◌, ◌<◌, ◌≡◌, Bool, List, length, get_or, eqb}
+use Rattle.ids.specs.Limits.{most_threads, sites}
+use Rattle.rooms.specs.declared.Rooms.{Rooms}
+
+-- where a site's levels begin
+abbrev pub base_of : ℕ → ℕ
+base_of site = most_threads * site
 
 -- what stands for a level
 abbrev pub room_in : List ℕ → ℕ → ℕ → ℕ
@@ -39,3 +44,8 @@ pub record Limited (rooms : List ℕ) (base threads : ℕ) : Type 0 where
   pub inside : base + most_threads ≤ length rooms
   pub threads_most : threads ≤ most_threads
   pub unlimited : (k : ℕ) → threads ≤ k → k < most_threads → 0 < get_or rooms (base + k) 0
+
+-- each level has the number that stands for no limit
+pub record NoLimit (r : Rooms) : Type 0 where
+  pub whole : length r.left ≡ sites * most_threads
+  pub each : (i : ℕ) → i < sites * most_threads → get_or r.left i 0 ≡ 255

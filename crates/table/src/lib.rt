@@ -3,148 +3,123 @@
 // call it.
 #![tactic(auto)]
 
-ghost use Rattle.std.specs.Prelude.{◌≡◌, ◌+◌, ◌≤◌, length};
+ghost use Rattle.std.specs.Prelude.{Bool, false, ℕ, ◌≡◌, ◌+◌, ◌-◌, ◌≤◌, length};
 ghost use Rattle.ids.specs.Limits.{most_open};
 ghost use Rattle.lists.specs.Count.{some, first};
-ghost use Rattle.table.specs.Places.{holds, between, past, block, Table, Searched, Gap, Closings};
+ghost use Rattle.table.specs.Places.{holds, between, past, block, Searched, Padded, Gap, Closings, Decides, passing, Found, Nothing};
 
 use ids::Ticket;
 
 // The places that a block has.
 const BLOCK: usize = 32;
 
-// Whether a number stands in the block from `base` on.
-fn hit(numbers: &[u16], base: usize, wanted: u16) -> bool
-    requires { base + block ≤ length numbers.now }
-    ensures { result ≡ some block (past base (holds numbers.now wanted)) }
+// The open calls: a number of each at its place, zeros behind them, and how many they are.
+#[derive(Clone, Copy)]
+pub struct Table {
+    pub tickets: [u16; Ticket::OPEN],
+    pub parents: [u16; Ticket::OPEN],
+    // 0 where the call is active, else one more than the place of its room.
+    pub keys: [u16; Ticket::OPEN],
+    pub nodes: [u8; Ticket::OPEN],
+    pub used: usize,
+}
+
+// Whether a number of the block from `base` on passes a test.
+fn hit<F: Fn(u16) -> bool>(numbers: &[u16], base: usize, passes: &F) -> bool
+    requires inside { base + block ≤ length numbers.now }
+    requires callable { F.IsAlwaysCallable passes.now }
+    ensures { (test : ℕ → Bool) → Decides (F.post passes.now) test → result ≡ some block (past base (passing test numbers.now)) }
 {
     let mut hit = false;
     for j in 0..BLOCK {
-        hit = hit | (numbers[base + j] == wanted);
-    }
-    hit
-}
-
-// The first place of a number in the block from `base` on, or the block's end.
-fn look(numbers: &[u16], base: usize, wanted: u16) -> usize
-    requires { base + block ≤ length numbers.now }
-    ensures { result ≡ base + first block (past base (holds numbers.now wanted)) }
-{
-    for j in 0..BLOCK {
-        if numbers[base + j] == wanted {
-            return base + j;
-        }
-    }
-    base + BLOCK
-}
-
-// The first place of a number, or `Ticket::OPEN` where it does not stand there.
-pub fn find(numbers: &[u16], used: usize, wanted: u16) -> usize
-    requires { Searched numbers.now used wanted }
-    ensures { result ≡ first most_open (holds numbers.now wanted) }
-{
-    let mut base = 0;
-    while base < used {
-        if hit(numbers, base, wanted) {
-            return look(numbers, base, wanted);
-        }
-        base += BLOCK;
-    }
-    Ticket::OPEN
-}
-
-// Whether a number stands in the block, once more: a function that is called from one place alone is laid into its caller.
-fn beneath(parents: &[u16], base: usize, wanted: u16) -> bool
-    requires { base + block ≤ length parents.now }
-    ensures { result ≡ some block (past base (holds parents.now wanted)) }
-{
-    let mut hit = false;
-    for j in 0..BLOCK {
-        hit = hit | (parents[base + j] == wanted);
-    }
-    hit
-}
-
-// Whether a ticket stands among the parents.
-pub fn has_child(parents: &[u16], used: usize, wanted: u16) -> bool
-    requires { Searched parents.now used wanted }
-    ensures { result ≡ some most_open (holds parents.now wanted) }
-{
-    let mut base = 0;
-    while base < used {
-        if beneath(parents, base, wanted) {
-            return true;
-        }
-        base += BLOCK;
-    }
-    false
-}
-
-// Whether a number above `low` and up to `top` stands in the block from `base` on.
-fn waits(keys: &[u16], base: usize, low: u16, top: u16) -> bool
-    requires { base + block ≤ length keys.now }
-    ensures { result ≡ some block (past base (between keys.now low top)) }
-{
-    let mut hit = false;
-    for j in 0..BLOCK {
-        let key = keys[base + j];
-        hit = hit | ((low < key) & (key <= top));
+        hit = hit | passes(numbers[base + j]);
     }
     hit
 }
 
 // The first place of such a number in the block, or the block's end.
-fn oldest(keys: &[u16], base: usize, low: u16, top: u16) -> usize
-    requires { base + block ≤ length keys.now }
-    ensures { result ≡ base + first block (past base (between keys.now low top)) }
+fn look<F: Fn(u16) -> bool>(numbers: &[u16], base: usize, passes: &F) -> usize
+    requires inside { base + block ≤ length numbers.now }
+    requires callable { F.IsAlwaysCallable passes.now }
+    ensures { (test : ℕ → Bool) → Decides (F.post passes.now) test → result ≡ base + first block (past base (passing test numbers.now)) }
 {
     for j in 0..BLOCK {
-        let key = keys[base + j];
-        if (low < key) & (key <= top) {
+        if passes(numbers[base + j]) {
             return base + j;
         }
     }
     base + BLOCK
 }
 
-// The first place of such a number, or `Ticket::OPEN` where there is none.
-pub fn waiter(keys: &[u16], used: usize, low: u16, top: u16) -> usize
-    requires { Table keys.now used }
-    ensures { result ≡ first most_open (between keys.now low top) }
+// The first place of a number that passes a test, which no zero does.
+fn place<F: Fn(u16) -> bool>(numbers: &[u16], used: usize, passes: F) -> Option<usize>
+    requires padded { Padded numbers.now used }
+    requires callable { F.IsAlwaysCallable passes }
+    ensures { (test : ℕ → Bool) → Decides (F.post passes) test → test 0 ≡ false → Found result (passing test numbers.now) }
 {
-    let mut base = 0;
-    while base < used {
-        if waits(keys, base, low, top) {
-            return oldest(keys, base, low, top);
+    for base in (0..used).step_by(BLOCK) {
+        if hit(numbers, base, &passes) {
+            return Some(look(numbers, base, &passes));
         }
-        base += BLOCK;
     }
-    Ticket::OPEN
+    None
 }
 
-// Closes the gap at a place: what stands behind it moves up, and the last place is zero.
-pub fn remove(
-    tickets: &mut [u16],
-    parents: &mut [u16],
-    keys: &mut [u16],
-    nodes: &mut [u8],
-    at: usize,
-    used: usize,
-)
-    requires { Gap tickets.old parents.old keys.old nodes.old at used }
-    ensures { Closings at used tickets.old parents.old keys.old nodes.old tickets.new parents.new keys.new nodes.new }
-{
-    let last = used - 1;
-    let mut i = at;
-    while i < last {
-        tickets[i] = tickets[i + 1];
-        parents[i] = parents[i + 1];
-        keys[i] = keys[i + 1];
-        nodes[i] = nodes[i + 1];
-        i += 1;
+impl Table {
+    // No call is open.
+    pub fn empty() -> Table
+        ensures { Nothing result }
+    {
+        Table {
+            tickets: [0; Ticket::OPEN],
+            parents: [0; Ticket::OPEN],
+            keys: [0; Ticket::OPEN],
+            nodes: [0; Ticket::OPEN],
+            used: 0,
+        }
     }
-    tickets[last] = 0;
-    parents[last] = 0;
-    keys[last] = 0;
-    nodes[last] = 0;
+
+    // The place of an open call's ticket.
+    pub fn find(&self, ticket: u16) -> Option<usize>
+        requires { Searched self.now.tickets self.now.used ticket }
+        ensures { Found result (holds self.now.tickets ticket) }
+    {
+        place(&self.tickets, self.used, |number| number == ticket)
+    }
+
+    // Whether a ticket stands among the parents.
+    pub fn has_child(&self, ticket: u16) -> bool
+        requires { Searched self.now.parents self.now.used ticket }
+        ensures { result ≡ some most_open (holds self.now.parents ticket) }
+    {
+        place(&self.parents, self.used, |number| number == ticket).is_some()
+    }
+
+    // The first place of a key above `low` and up to `top`.
+    pub fn waiter(&self, low: u16, top: u16) -> Option<usize>
+        requires { Padded self.now.keys self.now.used }
+        ensures { Found result (between self.now.keys low top) }
+    {
+        place(&self.keys, self.used, |key| (low < key) & (key <= top))
+    }
+
+    // Closes the gap at a place: what stands behind it moves up, and the last place is zero.
+    pub fn remove(&mut self, at: usize)
+        requires { Gap self.old at }
+        ensures closed { Closings at self.old.used self.old self.new }
+        ensures counted { self.new.used ≡ self.old.used - 1 }
+    {
+        let last = self.used - 1;
+        for i in at..last {
+            self.tickets[i] = self.tickets[i + 1];
+            self.parents[i] = self.parents[i + 1];
+            self.keys[i] = self.keys[i + 1];
+            self.nodes[i] = self.nodes[i + 1];
+        }
+        self.tickets[last] = 0;
+        self.parents[last] = 0;
+        self.keys[last] = 0;
+        self.nodes[last] = 0;
+        self.used = last;
+    }
 }

@@ -1,20 +1,25 @@
--- `table::look` meets its contract. The loop's invariant: the number does not stand in the first j places of the block. Assumes nothing.
+-- `table::look` meets its contract. The loop's invariant: no number that passes stands in the first j places of the block. Assumes nothing.
+use Prim.Native.Nat.{◌+◌}
 use native.Mathlib.Omega.{arith}
-use borrow.Author.Tests.{eq-eqb, ne_eqb}
+use mathlib.Core.Path.{sym, ◌∙◌}
 use Rattle.lists.proofs.BlockLaws.{first_passed, first_here, first_end}
-use Rattle.table.specs.Places.{holds, block}
+use Rattle.table.specs.Places.{passing, block}
 use Rattle.table.proofs.look.Goals as goal
 
 pub loop-j-init : goal.loop-j-init
-loop-j-init c = (omega arith, omega arith)
+loop-j-init g c = λ test decides. omega arith
 
-pub returns-then-numbers-base : goal.returns-then-numbers-base
-unfolding holds
-returns-then-numbers-base c = omega (arith, first_here block _ c.loop-j.j (omega arith) c.loop-j.invariant.1 (eq-eqb _ _ c.if-numbers-base.true))
+pub returns-then-passes : goal.returns-then-passes
+unfolding passing
+returns-then-passes g c = λ test decides.
+    let says = decides _ (omega (arith, c.type_inv.numbers (c.args.base + c.loop-j.j))) _ c.passes.ensures in
+    omega (arith, first_here block _ c.loop-j.j (omega arith) (c.loop-j.invariant test decides) (sym says ∙ c.if-passes.true))
 
 pub loop-j-preserved : goal.loop-j-preserved
-unfolding holds
-loop-j-preserved c = (omega arith, first_passed block _ c.loop-j.j (omega arith) c.loop-j.invariant.1 (ne_eqb _ _ c.if-numbers-base.false))
+unfolding passing
+loop-j-preserved g c = λ test decides.
+    let says = decides _ (omega (arith, c.type_inv.numbers (c.args.base + c.loop-j.j))) _ c.passes.ensures in
+    first_passed block _ c.loop-j.j (omega arith) (c.loop-j.invariant test decides) (sym says ∙ c.if-passes.false)
 
 pub returns : goal.returns
-returns c = first_end block _ _ _ (omega arith) c.loop-j.invariant.1
+returns g c = λ test decides. first_end block _ _ _ (omega arith) (c.loop-j.invariant test decides)
