@@ -20,20 +20,21 @@ use Rattle.model.proofs.PlaceLaws.{threads_most, site_small, level_small, level_
 use Rattle.model.proofs.CountsLaws.{more, counts-length, counts-closed}
 use Rattle.model.proofs.FirmLaws.{ending_leaves, withdrawn_leaves, closed_firm}
 use Rattle.model.proofs.SettledLaws.{counts_withdrawn}
+use Rattle.table.specs.declared.Table.{Table}
 use Rattle.table.specs.Places.{Gap, Closings}
 use Rattle.rooms.specs.Rooms.{one_more, Giving}
-use Rattle.moves.specs.Held.{Arrays, arrays, RoomsTell, room_byte, Held, CanClose}
+use Rattle.moves.specs.Held.{arrays, RoomsTell, room_byte, Held, CanClose}
 use Rattle.moves.proofs.RoomLaws.{giving, rooms-given}
 use Rattle.moves.proofs.TableLaws.{tells_table, tells_closed}
 
 -- A call that leaves: the gap at its place closes
 
-module _ {rs : List Record} {cs : List Call} {ticket : ℕ} {gone : Call} {a : Arrays} {used : ℕ} (held : Held rs cs a used)
-    (leaver : Leaver cs ticket gone) (at : ℕ) (place : at ≡ first_place (has ticket) cs) where
-  pub at_inside : at < used
+module _ {rs : List Record} {cs : List Call} {ticket : ℕ} {gone : Call} (t : Table) {left : List ℕ}
+    (held : Held rs cs (arrays t.tickets t.parents t.keys t.nodes left) t.used) (leaver : Leaver cs ticket gone) (at : ℕ) (place : at ≡ first_place (has ticket) cs) where
+  pub at_inside : at < t.used
   at_inside = omega (arith, place, held.count, place_inside (has ticket) cs gone leaver.stands)
 
-  pub gap : Gap a.tickets a.parents a.keys a.nodes at used
+  pub gap : Gap t at
   gap =
       let few = held.firm.few in
       let count = held.count in
@@ -45,20 +46,19 @@ module _ {rs : List Record} {cs : List Call} {ticket : ℕ} {gone : Call} {a : A
         taken = at_inside;
       }
 
-  fewer_used : used - 1 ≡ length (closed cs ticket)
+  fewer_used : t.used - 1 ≡ length (closed cs ticket)
   unfolding closed
   fewer_used = omega (arith, held.count, length_without (has ticket) cs gone leaver.stands)
 
-  pub shut_held : {tickets parents keys nodes rooms : List ℕ} → Closings at used a.tickets a.parents a.keys a.nodes tickets parents keys nodes
-      → RoomsTell rs (counts rs (closed cs ticket)) rooms → Firm rs (closed cs ticket)
-      → Held rs (closed cs ticket) (arrays tickets parents keys nodes rooms) (used - 1)
+  pub shut_held : {new : Table} {rooms : List ℕ} → Closings at t.used t new → RoomsTell rs (counts rs (closed cs ticket)) rooms → Firm rs (closed cs ticket)
+      → Held rs (closed cs ticket) (arrays new.tickets new.parents new.keys new.nodes rooms) (t.used - 1)
   unfolding closed
   shut_held shut of_rooms firm =
       record {
-        of_tickets = tells_closed (has ticket) at used held.of_tickets held.count place shut.of_tickets;
-        of_parents = tells_closed (has ticket) at used held.of_parents held.count place shut.of_parents;
-        of_keys = tells_closed (has ticket) at used held.of_keys held.count place shut.of_keys;
-        of_nodes = tells_closed (has ticket) at used held.of_nodes held.count place shut.of_nodes;
+        of_tickets = tells_closed (has ticket) at t.used held.of_tickets held.count place shut.of_tickets;
+        of_parents = tells_closed (has ticket) at t.used held.of_parents held.count place shut.of_parents;
+        of_keys = tells_closed (has ticket) at t.used held.of_keys held.count place shut.of_keys;
+        of_nodes = tells_closed (has ticket) at t.used held.of_nodes held.count place shut.of_nodes;
         of_rooms = of_rooms;
         count = fewer_used;
         firm = firm;
@@ -66,8 +66,8 @@ module _ {rs : List Record} {cs : List Call} {ticket : ℕ} {gone : Call} {a : A
 
 -- A call that ends: the rooms of its level and below gain one
 
-module _ {rs : List Record} {cs : List Call} {ticket : ℕ} {gone : Call} {a : Arrays} {used at site level : ℕ}
-    (ok : CanClose rs cs ticket gone a used at site level) where
+module _ {rs : List Record} {cs : List Call} {ticket : ℕ} {gone : Call} (t : Table) {left : List ℕ} {at site level : ℕ}
+    (ok : CanClose rs cs ticket gone (arrays t.tickets t.parents t.keys t.nodes left) t.used at site level) where
   known : has_node rs gone.node ≡ true
   known = ok.held.firm.known gone (found_in (has ticket) cs gone ok.ending.stands).0
 
@@ -101,36 +101,34 @@ module _ {rs : List Record} {cs : List Call} {ticket : ℕ} {gone : Call} {a : A
   level_long : level < length (counts rs (closed cs ticket) site)
   level_long = omega (arith, ok.level_is, level_small rs ok.held.firm.pass gone.node, counts-length rs site (closed cs ticket))
 
-  pub give_fits : Giving a.rooms (most_threads * site) level
+  pub give_fits : Giving left (most_threads * site) level
   give_fits =
-      giving rs (counts rs cs) a.rooms ok.held.of_rooms site site_inside (threads_most rs ok.held.firm.pass site)
+      giving rs (counts rs cs) left ok.held.of_rooms site site_inside (threads_most rs ok.held.firm.pass site)
       (counts rs (closed cs ticket)) level level_under level_long (ok.held.firm.law site) had_one_more
 
-  pub closed-held : {tickets parents keys nodes rooms : List ℕ} → Closings at used a.tickets a.parents a.keys a.nodes tickets parents keys nodes
-      → Filled (renewed one_more a.rooms) (most_threads * site) (most_threads * site + (level + 1)) a.rooms rooms
-      → Held rs (closed cs ticket) (arrays tickets parents keys nodes rooms) (used - 1)
+  pub closed-held : {new : Table} {rooms : List ℕ} → Closings at t.used t new → Filled (renewed one_more left) (most_threads * site) (most_threads * site + (level + 1)) left rooms
+      → Held rs (closed cs ticket) (arrays new.tickets new.parents new.keys new.nodes rooms) (t.used - 1)
   closed-held {rooms = rooms} shut filled =
       let h = ok.held in
       let given =
-      rooms-given rs (counts rs cs) a.rooms h.of_rooms site site_inside (threads_most rs h.firm.pass site)
+      rooms-given rs (counts rs cs) left h.of_rooms site site_inside (threads_most rs h.firm.pass site)
       (counts rs (closed cs ticket)) level level_under level_long (h.firm.law site) had_one_more rooms filled others_same
       in
       let leaver = ending_leaves ok.ending in
-      shut_held h leaver at ok.place shut given (closed_firm rs cs h.firm ticket gone leaver)
+      shut_held t h leaver at ok.place shut given (closed_firm rs cs h.firm ticket gone leaver)
 
 -- A call that is taken back: no room changes, since it was not counted
 
-pub withdrawn_held : {rs : List Record} {cs : List Call} {ticket : ℕ} {gone : Call} {a : Arrays} {used : ℕ} → Held rs cs a used → Withdrawn cs ticket gone
-    → (at : ℕ) → at ≡ first_place (has ticket) cs → {tickets parents keys nodes : List ℕ}
-    → Closings at used a.tickets a.parents a.keys a.nodes tickets parents keys nodes
-    → Held rs (closed cs ticket) (arrays tickets parents keys nodes a.rooms) (used - 1)
-withdrawn_held {rs} {cs} {ticket} {gone} {a} h end at place shut =
+pub withdrawn_held : {rs : List Record} {cs : List Call} {ticket : ℕ} {gone : Call} (t : Table) {left : List ℕ}
+    → Held rs cs (arrays t.tickets t.parents t.keys t.nodes left) t.used → Withdrawn cs ticket gone → (at : ℕ) → at ≡ first_place (has ticket) cs
+    → {new : Table} → Closings at t.used t new → Held rs (closed cs ticket) (arrays new.tickets new.parents new.keys new.nodes left) (t.used - 1)
+withdrawn_held {rs} {cs} {ticket} {gone} t {left} h end at place shut =
     let leaver = withdrawn_leaves h.firm end in
-    shut_held h leaver at place shut (rooms_same (counts_withdrawn rs cs h.firm ticket gone end) h.of_rooms)
+    shut_held t h leaver at place shut (rooms_same (counts_withdrawn rs cs h.firm ticket gone end) h.of_rooms)
     (closed_firm rs cs h.firm ticket gone leaver)
   where
-    rooms_same : ((s : ℕ) → counts rs (closed cs ticket) s ≡ counts rs cs s) → RoomsTell rs (counts rs cs) a.rooms
-        → RoomsTell rs (counts rs (closed cs ticket)) a.rooms
+    rooms_same : ((s : ℕ) → counts rs (closed cs ticket) s ≡ counts rs cs s) → RoomsTell rs (counts rs cs) left
+        → RoomsTell rs (counts rs (closed cs ticket)) left
     rooms_same same told =
         record {
           whole = told.whole;

@@ -172,19 +172,19 @@ module _ {rs : List Record} {cs : List Call} {a : Arrays} {used parent ticket no
       (level_under ok.held ok.placed) (level_long ok.held ok.placed) rooms (counts rs (opened rs cs parent ticket node)) filled
       counts_there (counts_here e))
 
-  pub opened_waiting : admissible rs cs node ≡ false
+  pub opened_waiting : admissible rs cs node ≡ false → (base : ℕ) → base ≡ most_threads * site
       → Held rs (opened rs cs parent ticket node)
-      (arrays (set a.tickets used ticket) (set a.parents used parent) (set a.keys used (most_threads * site + level + 1))
+      (arrays (set a.tickets used ticket) (set a.parents used parent) (set a.keys used (base + level + 1))
       (set a.nodes used node) a.rooms)
       (used + 1)
   unfolding newcomer key_of
-  opened_waiting e =
-      opened-held (set a.keys used (most_threads * site + level + 1)) a.rooms
-      (stored (key_of rs) a.keys (most_threads * site + level + 1) ok.held.of_keys key_is)
+  opened_waiting e base base_is =
+      opened-held (set a.keys used (base + level + 1)) a.rooms
+      (stored (key_of rs) a.keys (base + level + 1) ok.held.of_keys key_is)
       (record {
         whole = ok.held.of_rooms.whole;
         each = λ s k hs hk. ok.held.of_rooms.each s k hs hk ∙ ap (λ (b : List ℕ). room_byte (threads rs s) b k) (sym (counts_waiting e s));
       })
     where
-      key_is : most_threads * site + level + 1 ≡ cond (admissible rs cs node) 0 (most_threads * site_of rs node + level_of rs node + 1)
-      key_is = rw e (omega (arith, ok.placed.site_is, ok.placed.level_is))
+      key_is : base + level + 1 ≡ cond (admissible rs cs node) 0 (most_threads * site_of rs node + level_of rs node + 1)
+      key_is = rw e (omega (arith, base_is, ap (λ (s : ℕ). most_threads * s) ok.placed.site_is, ok.placed.level_is))

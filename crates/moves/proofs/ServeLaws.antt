@@ -120,36 +120,37 @@ module _ {rs : List Record} {cs : List Call} {a : Arrays} {used site most : ℕ}
 
 -- What the search's answer says, for the function's stations
 
-module _ {rs : List Record} {cs : List Call} {a : Arrays} {used site most : ℕ} (ok : CanServe rs cs a used site most) (limit at : ℕ)
-    (limit_is : limit ≡ first most (no_room a.rooms (most_threads * site)))
-    (at_is : at ≡ first most_open (between a.keys (most_threads * site) (most_threads * site + limit))) where
+module _ {rs : List Record} {cs : List Call} {a : Arrays} {used site most : ℕ} (ok : CanServe rs cs a used site most) (base limit at : ℕ)
+    (base_is : base ≡ most_threads * site) (limit_is : limit ≡ first most (no_room a.rooms (most_threads * site)))
+    (at_is : at ≡ first most_open (between a.keys base (base + limit))) where
+  whom : Wakes rs cs site at
+  whom = wakes ok limit at limit_is (at_is ∙ ap (λ (b : ℕ). first most_open (between a.keys b (b + limit))) base_is)
+
   -- the level that the key tells
   abbrev chosen_level : ℕ
-  chosen_level = get_or a.keys at 0 - most_threads * site - 1
+  chosen_level = get_or a.keys at 0 - base - 1
 
   pub record Chosen : Type 0 where
     pub who : Call
     pub chosen : to_wake rs cs site ≡ some who
     pub here : at ≡ first_place (may_wake rs cs site) cs
-    pub inside : at < most_open
     pub key_told : get_or a.keys at 0 ≡ most_threads * site + level_of rs who.node + 1
     pub level_told : level_of rs who.node ≡ chosen_level
     pub small : level_of rs who.node < most_threads
 
-  pub chosen-one : (at ≡ most_open → ⊥) → Chosen
-  chosen-one some-place = go (wakes ok limit at limit_is at_is)
+  pub chosen-one : at < most_open → Chosen
+  chosen-one some-place = go whom
     where
       go : Wakes rs cs site at → Chosen
-      go (nobody e q) = absurd (some-place q)
+      go (nobody e q) = absurd (omega arith)
       go (somebody d e q inside) =
           let told = key_is ok d at e q in
           record {
             who = d;
             chosen = e;
             here = q;
-            inside = omega (arith, ok.held.firm.few);
             key_told = told;
-            level_told = omega arith;
+            level_told = omega (arith, base_is);
             small = level_small rs ok.held.firm.pass d.node;
           }
 
@@ -167,7 +168,7 @@ module _ {rs : List Record} {cs : List Call} {a : Arrays} {used site most : ℕ}
   )
 
   pub unserved : at ≡ most_open → (no_ticket ≡ ticket_of (to_wake rs cs site)) × Held rs (woken rs cs site) a used
-  unserved e = go (wakes ok limit at limit_is at_is)
+  unserved e = go whom
     where
       go : Wakes rs cs site at → (no_ticket ≡ ticket_of (to_wake rs cs site)) × Held rs (woken rs cs site) a used
       go (nobody q r) = (sym (ap ticket_of q), nobody_woken ok q)

@@ -19,12 +19,12 @@ use Rattle.lists.proofs.CountLaws.{true_or_false, lt_or_ge}
 use Rattle.lists.proofs.TellLaws.{first_same, some_same, tell-past, tell_more, place_inside, tell-place, tell-without, tell-changed, tell_blind}
 use Rattle.lists.proofs.TellLaws.{first_passes, some-passes, any_found, any_not_found}
 use Rattle.model.specs.Net.{Call, has, lookup, is_child}
-use Rattle.table.specs.Places.{holds, Table, next_of, Closing}
+use Rattle.table.specs.Places.{holds, Padded, next_of, Closing}
 use Rattle.moves.specs.Held.{Tells}
 
 -- an array that tells the calls is a table with zeros past their count
 pub tells_table : {g : Call → ℕ} {cs : List Call} {numbers : List ℕ} {used : ℕ} → Tells g cs numbers → used ≡ length cs → length cs ≤ most_open
-    → Table numbers used
+    → Padded numbers used
 tells_table {g} {cs} t e few =
     record { whole = t.whole; few = omega arith; zeros = λ i h. t.each i ∙ tell-past g cs i (omega arith) }
 

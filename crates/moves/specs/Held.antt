@@ -1,8 +1,9 @@
 -- What the arrays inside a run hold: the open calls of a net, number by number, and the rooms of its sites. For the contracts of `moves`.
 -- Assumes nothing.
-use Rattle.std.specs.Prelude.{ℕ, ◌+◌, ◌-◌, ◌*◌, ◌<◌, ◌≡◌, Bool, true, cond, List, length, get_or, ltb}
-use Rattle.ids.specs.Limits.{sites, most_threads, most_open}
+use Rattle.std.specs.Prelude.{ℕ, ◌+◌, ◌-◌, ◌*◌, ◌<◌, ◌≡◌, Bool, true, cond, List, length, get_or, ltb, Option, Some, None}
+use Rattle.ids.specs.Limits.{sites, most_threads, most_open, no_ticket}
 use Rattle.lists.specs.Pick.{tell, first_place}
+use Rattle.moves.specs.declared.Running.{Running}
 use Rattle.model.specs.Site.{spare}
 use Rattle.model.specs.Plan.{Record, threads}
 use Rattle.model.specs.Net.{Call, has_node, site_of, level_of, has, counts, ticket_of, admissible, opened, closed, to_wake, woken}
@@ -46,6 +47,15 @@ pub record Arrays : Type 0 where
 
 abbrev pub arrays : List ℕ → List ℕ → List ℕ → List ℕ → List ℕ → Arrays
 arrays tickets parents keys nodes rooms = record { tickets = tickets; parents = parents; keys = keys; nodes = nodes; rooms = rooms }
+
+-- what a run holds
+abbrev pub arrays_of : Running → Arrays
+arrays_of r = arrays r.table.tickets r.table.parents r.table.keys r.table.nodes r.rooms.left
+
+-- a ticket, or the word for none
+abbrev pub served_told : Option ℕ → ℕ
+served_told None = no_ticket
+served_told (Some ticket) = ticket
 
 -- the arrays hold the open calls of a net, which keep every rule but perhaps the one on waiting calls
 pub record Held (rs : List Record) (cs : List Call) (a : Arrays) (used : ℕ) : Type 0 where
