@@ -8,12 +8,9 @@ use lib.ListN.{length, get_or}
 use lib.Dec.{eqb}
 use lib.Pointwise.{pointwise}
 use Rattle.std.proofs.lemmas.Grind.{same_number_lists}
-use borrow.Author.Tests.{eqb-true, eq-eqb}
 use Rattle.ids.specs.Limits.{sites, most_threads}
-use Rattle.lists.specs.Count.{some}
 use Rattle.lists.specs.Tabled.{tabled}
-use Rattle.lists.proofs.CountLaws.{never_both, not_true_false, not_false_true, denied, every_at, every-all}
-use Rattle.lists.proofs.BlockLaws.{some_none, none_some}
+use Rattle.lists.proofs.CountLaws.{never_both, not_true_false, every_at, every-all}
 use Rattle.lists.proofs.TabledLaws.{get_or-tabled, tabled-is}
 use Rattle.model.specs.Plan.{Record}
 use Rattle.model.specs.Net.{Call, counts}

@@ -1,5 +1,5 @@
 -- What the counts of active calls and the rooms in arrays say of the net that the arrays hold. For the contracts of `tally`. Assumes nothing.
-use Rattle.std.specs.Prelude.{ℕ, ◌+◌, ◌-◌, ◌*◌, ◌≤◌, ◌<◌, ◌≡◌, Bool, true, false, not, length, get_or, eqb, Option, Some, None}
+use Rattle.std.specs.Prelude.{ℕ, ◌+◌, ◌-◌, ◌*◌, ◌≤◌, ◌<◌, ◌≡◌, Bool, true, false, length, get_or, Option, Some, None}
 use mathlib.Core.List.{List, [], ◌∷◌, ◌++◌, Memᴰ}
 use Rattle.ids.specs.Limits.{sites, most_threads, nodes, most_open}
 use Rattle.lists.specs.Fill.{Filled}

@@ -1,5 +1,4 @@
 -- `tally::count` meets its contract: whichever calls the arrays hold, the counts up to the loop's place are those of the calls before it. Assumes nothing.
-use native.Mathlib.Omega.{arith}
 use mathlib.Core.Path.{sym, subst}
 use Rattle.tally.specs.Tally.{CountTold}
 use Rattle.tally.proofs.CountLaws.{none_told, behind, counted_on, counted_over, counted_all}

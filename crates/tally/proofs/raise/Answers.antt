@@ -19,9 +19,12 @@ pub bounds-counts-at-2 : goal.bounds-counts-at-2
 bounds-counts-at-2 c = inside c.requires.3
 
 pub returns-in_err-counts : goal.returns-in_err-counts
-returns-in_err-counts c = (refl, λ rs cs call b.
-    subst (λ (r : Option Unit). CountTold rs (cs ++ (call ∷ [])) (left_in c.args.counts.now r)) (sym c.from_residual.ensures)
-    (raised_over b c.if-key-ne0.false _ refl (omega (arith, c.in_err-counts.ensures))))
+returns-in_err-counts c = (
+  refl,
+  λ rs cs call b.
+      subst (λ (r : Option Unit). CountTold rs (cs ++ (call ∷ [])) (left_in c.args.counts.now r)) (sym c.from_residual.ensures)
+      (raised_over b c.if-key-ne0.false _ refl (omega (arith, c.in_err-counts.ensures))),
+)
 
 pub returns : goal.returns
 returns c = (length-set {A = ℕ} c.args.counts.now _ _, λ rs cs call b. raised_more b c.if-key-ne0.false _ refl _ c.in_ok-counts.ensures.1)

@@ -1,5 +1,4 @@
 -- `tally::rooms_of` meets its contract: whichever net the counts are of, the rooms of the sites before the loop's are told. Assumes nothing.
-use native.Mathlib.Omega.{arith}
 use mathlib.Core.Path.{sym, subst, ◌∙◌}
 use Rattle.tally.specs.Tally.{RoomsTold}
 use Rattle.tally.proofs.RoomLaws.{rooms_none, site_counted, site_roomable, rooms_more, rooms_end, rooms_all}
