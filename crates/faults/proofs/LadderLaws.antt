@@ -6,13 +6,14 @@ use mathlib.Core.Path.{◌≡◌, refl, sym, ap, ◌∙◌}
 use mathlib.Core.Logic.{⊎_elim}
 use mathlib.Core.Bool.{Bool, true, false, not}
 use mathlib.Core.List.{List}
-use mathlib.Core.Option.{Option, none, some}
+use mathlib.Core.Option.{Option as Maybe, none, some}
+use Rattle.std.specs.Prelude.{Option, Some, None}
+use Rattle.std.specs.Option.{is_some}
 use lib.ListN.{length, get_or, get_or-eq_default}
 use lib.Dec.{eqb}
 use borrow.Author.Tests.{eq-eqb, ne_eqb, lt-ltb, le-ltb}
 use Rattle.ids.specs.Limits.{no_ticket, most_open, nodes}
 use Rattle.lists.specs.Count.{first, some as holds-below}
-use Rattle.lists.specs.Pick.{first_place}
 use Rattle.lists.proofs.CountLaws.{never_both, lt_or_ge}
 use Rattle.lists.proofs.PickLaws.{count-some, found_in}
 use Rattle.model.specs.Plan.{Record, has_edge}
@@ -20,13 +21,13 @@ use Rattle.model.specs.PlanValue.{nowhere as nowhere-place, somewhere}
 use Rattle.model.specs.Net.{Call, Core, has_node, has, lookup, has_child}
 use Rattle.model.specs.Command.{start, call, return, take_back, fault}
 use Rattle.record.specs.Step.{listed_node}
-use Rattle.table.specs.Places.{holds, Searched}
+use Rattle.table.specs.Places.{holds, Searched, Found}
 use Rattle.moves.specs.Held.{key_of}
 use Rattle.moves.proofs.KeyLaws.{key_active, key_waits}
 use Rattle.moves.proofs.TableLaws.{FoundAt, nowhere, there, found_at, tells_table, told_there, child_is}
 use Rattle.words.specs.Words.{member}
 use Rattle.links.specs.Rows.{linked}
-use Rattle.faults.specs.Seen.{Listing, Edging, Ticketed, CallSeen, ReturnSeen}
+use Rattle.faults.specs.Seen.{Listing, Edging, Ticketed, StandsAt, OpenAt, CallSeen, ReturnSeen}
 
 module _ {rs : List Record} {cs : List Call} {tickets : List ℕ} {used : ℕ} (seen : Ticketed rs cs tickets used) where
   pub find_fits : (ticket : ℕ) → (ticket ≡ no_ticket → ⊥) → Searched tickets used ticket
@@ -37,7 +38,7 @@ module _ {rs : List Record} {cs : List Call} {tickets : List ℕ} {used : ℕ} (
   unfolding has
   nobody_0 = go (lookup cs no_ticket) refl
     where
-      go : (o : Option Call) → lookup cs no_ticket ≡ o → o ≡ none
+      go : (o : Maybe Call) → lookup cs no_ticket ≡ o → o ≡ none
       go none e = refl
       go (some c) e =
           let w = found_in (has no_ticket) cs c e in absurd (omega (arith, count-some (has no_ticket) cs c w.0 w.1, seen.firm.none_0))
@@ -53,18 +54,33 @@ module _ {rs : List Record} {cs : List Call} {tickets : List ℕ} {used : ℕ} (
         go (nowhere q r) = q
         go (there c q r inside) = absurd (omega (arith, seen.firm.few))
 
-    pub record FoundOpen : Type 0 where
-      pub who : Call
-      pub found : lookup cs ticket ≡ some who
-      pub here : at ≡ first_place (has ticket) cs
-      pub inside : at < most_open
-
-    pub is_there : (at ≡ most_open → ⊥) → FoundOpen
+    pub is_there : at < most_open → StandsAt cs ticket at
     is_there some-place = go where_found
       where
-        go : FoundAt cs ticket at → FoundOpen
-        go (nowhere q r) = absurd (some-place r)
-        go (there c q r inside) = record { who = c; found = q; here = r; inside = omega (arith, seen.firm.few) }
+        go : FoundAt cs ticket at → StandsAt cs ticket at
+        go (nowhere q r) = absurd (omega arith)
+        go (there c q r inside) = record { who = c; found = q; here = r; inside = some-place }
+
+  -- what the search answers, of a ticket that is not the word for none
+  pub open-at : (ticket : ℕ) → (ticket ≡ no_ticket → ⊥) → (o : Option ℕ) → Found o (holds tickets ticket) → OpenAt cs ticket o
+  open-at ticket apart None w = not_there ticket most_open apart w refl
+  open-at ticket apart (Some at) w = is_there ticket at apart w.0 w.1
+
+  -- an open call's ticket is not that word
+  pub stands_apart : {ticket at : ℕ} → StandsAt cs ticket at → ticket ≡ no_ticket → ⊥
+  stands_apart {ticket} w e =
+      let gone : lookup cs ticket ≡ none = ap (lookup cs) e ∙ nobody_0 in
+      let both = sym w.found ∙ gone in
+      cc
+
+-- an answer is some place exactly where the ticket is open
+pub open_who : (cs : List Call) (ticket : ℕ) (o : Option ℕ) → OpenAt cs ticket o → is_some o ≡ true → (who : Call) × (lookup cs ticket ≡ some who)
+open_who cs ticket None w e = absurd (never_both e refl)
+open_who cs ticket (Some at) w e = (w.who, w.found)
+
+pub open_none : (cs : List Call) (ticket : ℕ) (o : Option ℕ) → OpenAt cs ticket o → is_some o ≡ false → lookup cs ticket ≡ none
+open_none cs ticket None w e = w
+open_none cs ticket (Some at) w e = absurd (never_both {b = true} refl e)
 
 -- Rungs
 
@@ -205,13 +221,11 @@ pub record Parented (rs : List Record) (cs : List Call) (keys open-nodes : List 
 
 module _ {rs : List Record} {cs : List Call} {tickets keys open-nodes places edges : List ℕ} {used : ℕ}
     (seen : CallSeen rs cs tickets keys open-nodes places edges used) where
-  pub parented : (parent ticket other at : ℕ) → (ticket ≡ no_ticket → ⊥) → other ≡ first most_open (holds tickets ticket) → other ≡ most_open
-      → (parent ≡ no_ticket → ⊥) → at ≡ first most_open (holds tickets parent) → (at ≡ most_open → ⊥) → Parented rs cs keys open-nodes parent ticket at
-  parented parent ticket other at apart other-is none_there some-parent at_is some-place =
+  pub parented : {parent ticket at : ℕ} → lookup cs ticket ≡ none → StandsAt cs parent at → Parented rs cs keys open-nodes parent ticket at
+  parented {parent} {ticket} {at} fresh w =
       let told = seen.calls_told in
-      let w = is_there told parent at some-parent at_is some-place in
       record {
-        fresh = not_there told ticket other apart other-is none_there;
+        fresh = fresh;
         who = w.who;
         found = w.found;
         inside = w.inside;

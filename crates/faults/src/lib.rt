@@ -1,131 +1,114 @@
-// What stands in a command's way, inside a run: the number of the first test of its order that fails, or 0. An inner crate: the library's own crates
-// alone call it.
+// What stands in a command's way, inside a run: the first test of its order that fails. An inner crate: the library's own crates alone call it.
 #![tactic(auto)]
 
 ghost use Rattle.std.specs.Prelude.{List};
 ghost use Rattle.model.specs.Plan.{Record};
 ghost use Rattle.model.specs.Net.{Call};
-ghost use Rattle.faults.specs.Seen.{StartSeen, StartFault, CallSeen, CallFault, ReturnSeen, ReturnFault, BackSeen, BackFault};
+ghost use Rattle.faults.specs.Seen.{Ticketed, OpenAt, Free, StartSeen, StartFault, CallSeen, CallFault, ReturnSeen, ReturnFault, BackSeen, BackFault, fault_told, place_told};
 
 use ids::{Node, Ticket};
+use links::Rows;
+use model::{Plan, Refusal};
+use table::Table;
 
-// The number of the first test of a return or a taking back that fails, or 0, and then the place of the call.
-#[derive(Clone, Copy)]
-pub struct Ending {
-    pub fault: u8,
-    pub at: usize,
+// The place of an open call. No ticket is not open.
+pub fn open_place(table: &Table, ticket: u16) -> Option<usize>
+    requires { (rs : List Record) × (cs : List Call) × Ticketed rs cs table.now.tickets table.now.used }
+    ensures { (rs : List Record) (cs : List Call) → Ticketed rs cs table.now.tickets table.now.used → OpenAt cs ticket result }
+{
+    if ticket == Ticket::NONE {
+        return None;
+    }
+    table.find(ticket)
+}
+
+// Whether a ticket is free for a new call, the first test of a start and of a call: 20, 21.
+fn free(table: &Table, ticket: u16) -> Result<(), Refusal>
+    requires { (rs : List Record) × (cs : List Call) × Ticketed rs cs table.now.tickets table.now.used }
+    ensures { (rs : List Record) (cs : List Call) → Ticketed rs cs table.now.tickets table.now.used → Free rs cs ticket result }
+{
+    if ticket == Ticket::NONE {
+        return Err(Refusal::NoTicket);
+    }
+    if table.find(ticket).is_some() {
+        return Err(Refusal::TicketOpen);
+    }
+    Ok(())
 }
 
 // A start: 20, 21, 22, 26.
-pub fn start_fault<'a>(
-    tickets: &'a [u16],
-    used: usize,
-    places: &'a [u8],
-    ticket: u16,
-    node: u8,
-) -> u8
-    requires { (rs : List Record) × (cs : List Call) × StartSeen rs cs tickets.now places.now used }
-    ensures { StartFault tickets.now places.now used ticket node result }
+pub fn start_fault(table: &Table, plan: &Plan, ticket: u16, node: u8) -> Result<(), Refusal>
+    requires { (rs : List Record) × (cs : List Call) × StartSeen rs cs table.now.tickets plan.now.places table.now.used }
+    ensures { StartFault table.now.tickets plan.now.places table.now.used ticket node (fault_told result) }
 {
-    if ticket == Ticket::NONE {
-        return 20;
+    free(table, ticket)?;
+    if !record::has_node(&plan.places, Node(node)) {
+        return Err(Refusal::NoSuchNode);
     }
-    if table::find(tickets, used, ticket) != Ticket::OPEN {
-        return 21;
+    if table.used == Ticket::OPEN {
+        return Err(Refusal::TooManyOpen);
     }
-    if !record::has_node(places, Node(node)) {
-        return 22;
-    }
-    if used == Ticket::OPEN {
-        return 26;
-    }
-    0
+    Ok(())
 }
 
-// A call: 20, 21, 23, 24, 22, 25, 26. No ticket is no parent.
-pub fn call_fault<'a>(
-    tickets: &'a [u16],
-    keys: &'a [u16],
-    open_nodes: &'a [u8],
-    used: usize,
-    places: &'a [u8],
-    edges: &'a [u64],
+// A call: 20, 21, 23, 24, 22, 25, 26.
+pub fn call_fault(
+    table: &Table,
+    plan: &Plan,
+    edges: &Rows,
     parent: u16,
     ticket: u16,
     node: u8,
-) -> u8
-    requires { (rs : List Record) × (cs : List Call) × CallSeen rs cs tickets.now keys.now open_nodes.now places.now edges.now used }
-    ensures { CallFault tickets.now keys.now open_nodes.now places.now edges.now used parent ticket node result }
+) -> Result<(), Refusal>
+    requires { (rs : List Record) × (cs : List Call) × CallSeen rs cs table.now.tickets table.now.keys table.now.nodes plan.now.places edges.now.rows table.now.used }
+    ensures { CallFault table.now.tickets table.now.keys table.now.nodes plan.now.places edges.now.rows table.now.used parent ticket node (fault_told result) }
 {
-    if ticket == Ticket::NONE {
-        return 20;
+    free(table, ticket)?;
+    let Some(at) = open_place(table, parent) else {
+        return Err(Refusal::ParentNotOpen);
+    };
+    if table.keys[at] != 0 {
+        return Err(Refusal::ParentWaits);
     }
-    if table::find(tickets, used, ticket) != Ticket::OPEN {
-        return 21;
+    if !record::has_node(&plan.places, Node(node)) {
+        return Err(Refusal::NoSuchNode);
     }
-    if parent == Ticket::NONE {
-        return 23;
+    if !words::has(edges.rows[table.nodes[at] as usize], node) {
+        return Err(Refusal::NoSuchEdge);
     }
-    let at = table::find(tickets, used, parent);
-    if at == Ticket::OPEN {
-        return 23;
+    if table.used == Ticket::OPEN {
+        return Err(Refusal::TooManyOpen);
     }
-    if keys[at] != 0 {
-        return 24;
-    }
-    if !record::has_node(places, Node(node)) {
-        return 22;
-    }
-    if !words::has(edges[open_nodes[at] as usize], node) {
-        return 25;
-    }
-    if used == Ticket::OPEN {
-        return 26;
-    }
-    0
+    Ok(())
 }
 
-// A return: 27, 28, 29. No ticket is not open.
-pub fn return_fault<'a>(
-    tickets: &'a [u16],
-    parents: &'a [u16],
-    keys: &'a [u16],
-    used: usize,
-    ticket: u16,
-) -> Ending
-    requires { (rs : List Record) × (cs : List Call) × ReturnSeen rs cs tickets.now parents.now keys.now used }
-    ensures { ReturnFault tickets.now parents.now keys.now used ticket result.fault result.at }
+// A return: 27, 28, 29; else the place of the call.
+pub fn return_fault(table: &Table, ticket: u16) -> Result<usize, Refusal>
+    requires { (rs : List Record) × (cs : List Call) × ReturnSeen rs cs table.now.tickets table.now.parents table.now.keys table.now.used }
+    ensures { ReturnFault table.now.tickets table.now.parents table.now.keys table.now.used ticket (fault_told result) (place_told result) }
 {
-    if ticket == Ticket::NONE {
-        return Ending { fault: 27, at: 0 };
+    let Some(at) = open_place(table, ticket) else {
+        return Err(Refusal::NotOpen);
+    };
+    if table.keys[at] != 0 {
+        return Err(Refusal::StillWaits);
     }
-    let at = table::find(tickets, used, ticket);
-    if at == Ticket::OPEN {
-        return Ending { fault: 27, at };
+    if table.has_child(ticket) {
+        return Err(Refusal::ChildOpen);
     }
-    if keys[at] != 0 {
-        return Ending { fault: 28, at };
-    }
-    if table::has_child(parents, used, ticket) {
-        return Ending { fault: 29, at };
-    }
-    Ending { fault: 0, at }
+    Ok(at)
 }
 
-// A taking back: 27, 34. No ticket is not open.
-pub fn back_fault<'a>(tickets: &'a [u16], keys: &'a [u16], used: usize, ticket: u16) -> Ending
-    requires { (rs : List Record) × (cs : List Call) × BackSeen rs cs tickets.now keys.now used }
-    ensures { BackFault tickets.now keys.now used ticket result.fault result.at }
+// A taking back: 27, 34; else the place of the call.
+pub fn back_fault(table: &Table, ticket: u16) -> Result<usize, Refusal>
+    requires { (rs : List Record) × (cs : List Call) × BackSeen rs cs table.now.tickets table.now.keys table.now.used }
+    ensures { BackFault table.now.tickets table.now.keys table.now.used ticket (fault_told result) (place_told result) }
 {
-    if ticket == Ticket::NONE {
-        return Ending { fault: 27, at: 0 };
+    let Some(at) = open_place(table, ticket) else {
+        return Err(Refusal::NotOpen);
+    };
+    if table.keys[at] == 0 {
+        return Err(Refusal::NotWaiting);
     }
-    let at = table::find(tickets, used, ticket);
-    if at == Ticket::OPEN {
-        return Ending { fault: 27, at };
-    }
-    if keys[at] == 0 {
-        return Ending { fault: 34, at };
-    }
-    Ending { fault: 0, at }
+    Ok(at)
 }
