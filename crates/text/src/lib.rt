@@ -5,16 +5,24 @@
 ghost use Rattle.std.specs.Prelude.{◌+◌, ◌≤◌, ◌<◌, length};
 ghost use Rattle.model.specs.Text.{ascii, decimal, spaced, plan_line, plan_refused_line, done_line, bad_line};
 ghost use Rattle.text.specs.Put.{Put};
-ghost use Rattle.text.specs.Lines.{pair_text, marked_end, answer_end, line_text, line2_text};
+ghost use Rattle.text.specs.Lines.{pair_text, lettered_end, marked_end, answer_end, accepted_told, shown_told, asked_text};
 ghost use Rattle.text.specs.Room.{number_room, long_room, answer_room, line_room, word_room, plan_room, plan_refused_room, done_room, bad_room};
 
-// An answer: a letter, a number, a refusal's number, or `W` and the level in the way.
-#[derive(Clone, Copy)]
+use model::Refusal;
+
+// What an answer says, where it is no refusal.
+#[derive(Clone, Copy, PartialEq, Eq)]
 pub enum Printed {
-    Letter(u8),
-    Number(u16),
-    Refused(u8),
+    // A start or a call: the call is active.
+    Active,
+    // Or it waits, with the level in the way.
     Waits(u8),
+    // A question: the call is active, waits, or is not open.
+    Running,
+    Waiting,
+    Absent,
+    // A return's ticket, or a room.
+    Number(u16),
 }
 
 // The digit 0.
@@ -81,6 +89,17 @@ pub fn long_number(text: &mut [u8], at: usize, n: usize) -> usize
     digits(text, at + 1, n)
 }
 
+// A letter and the line's end.
+fn lettered(text: &mut [u8], at: usize, letter: u8) -> usize
+    requires { at + answer_room ≤ length text.old }
+    ensures { Put text.old at (lettered_end letter) text.new result }
+{
+    text[at] = b' ';
+    text[at + 1] = letter;
+    text[at + 2] = b'\n';
+    at + 3
+}
+
 // A letter, a number and the line's end.
 fn marked(text: &mut [u8], at: usize, letter: u8, n: u8) -> usize
     requires { at + answer_room ≤ length text.old }
@@ -93,53 +112,54 @@ fn marked(text: &mut [u8], at: usize, letter: u8, n: u8) -> usize
     told + 1
 }
 
-// An answer and the line's end.
-fn answer(text: &mut [u8], at: usize, what: Printed) -> usize
+// The answer of a request that is not refused, and the line's end.
+fn accepted(text: &mut [u8], at: usize, what: Printed) -> usize
     requires { at + answer_room ≤ length text.old }
-    ensures { Put text.old at (answer_end what) text.new result }
+    ensures { Put text.old at (answer_end (accepted_told what)) text.new result }
 {
     match what {
-        Printed::Letter(letter) => {
-            text[at] = b' ';
-            text[at + 1] = letter;
-            text[at + 2] = b'\n';
-            at + 3
-        }
+        Printed::Active => lettered(text, at, b'G'),
+        Printed::Waits(level) => marked(text, at, b'W', level),
+        Printed::Running => lettered(text, at, b'A'),
+        Printed::Waiting => lettered(text, at, b'W'),
+        Printed::Absent => lettered(text, at, b'N'),
         Printed::Number(n) => {
             let told = number(text, at, n);
             text[told] = b'\n';
             told + 1
         }
-        Printed::Refused(n) => marked(text, at, b'R', n),
-        Printed::Waits(level) => marked(text, at, b'W', level),
     }
 }
 
-// A command's line with one number: its letter, the number and the answer.
-pub fn line(text: &mut [u8], at: usize, letter: u8, first: u16, what: Printed) -> usize
-    requires { at + line_room ≤ length text.old }
-    ensures { Put text.old at (line_text letter first what) text.new result }
+// An answer and the line's end.
+fn answer(text: &mut [u8], at: usize, what: Result<Printed, Refusal>) -> usize
+    requires { at + answer_room ≤ length text.old }
+    ensures { Put text.old at (answer_end (shown_told what)) text.new result }
 {
-    text[at] = letter;
-    let asked = number(text, at + 1, first);
-    answer(text, asked, what)
+    match what {
+        Ok(said) => accepted(text, at, said),
+        Err(why) => marked(text, at, b'R', u8::from(why)),
+    }
 }
 
-// The same with two numbers.
-pub fn line2(
+// A command's line: its letter, its one or two numbers and the answer.
+pub fn line(
     text: &mut [u8],
     at: usize,
     letter: u8,
     first: u16,
-    second: u16,
-    what: Printed,
+    second: Option<u16>,
+    what: Result<Printed, Refusal>,
 ) -> usize
     requires { at + line_room ≤ length text.old }
-    ensures { Put text.old at (line2_text letter first second what) text.new result }
+    ensures { Put text.old at (asked_text letter first second (shown_told what)) text.new result }
 {
     text[at] = letter;
     let half = number(text, at + 1, first);
-    let asked = number(text, half, second);
+    let Some(more) = second else {
+        return answer(text, half, what);
+    };
+    let asked = number(text, half, more);
     answer(text, asked, what)
 }
 
