@@ -1,4 +1,3 @@
 pub mod BrokenLaws
 pub mod HeldLaws
 pub mod PartLaws
-pub mod FreshLaws

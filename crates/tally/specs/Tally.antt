@@ -84,9 +84,8 @@ Counts keys open-nodes used places levels r = (rs : List Record) (cs : List Call
 
 -- "each site's counts are those of its active calls"
 
-abbrev pub KeptTested : List ℕ → List ℕ → List ℕ → ℕ → List ℕ → List ℕ → Type 0
-KeptTested numbers keys open-nodes used places levels =
-    ((rs : List Record) × (cs : List Call) × Counting rs cs keys open-nodes used places levels) × (length numbers ≡ sites * most_threads)
+abbrev pub KeptTested : List ℕ → List ℕ → ℕ → List ℕ → List ℕ → Type 0
+KeptTested keys open-nodes used places levels = (rs : List Record) × (cs : List Call) × Counting rs cs keys open-nodes used places levels
 
 abbrev pub KeptTest : List ℕ → List ℕ → List ℕ → ℕ → List ℕ → List ℕ → Bool → Type 0
 KeptTest numbers keys open-nodes used places levels r =

@@ -38,7 +38,7 @@ pub fn count(table: &Table, plan: &Plan) -> Option<[u8; Site::COUNT * Site::THRE
 
 // Whether these are the counts of the active calls.
 pub fn kept(counts: &[u8; Site::COUNT * Site::THREADS], table: &Table, plan: &Plan) -> bool
-    requires { KeptTested counts.now table.now.keys table.now.nodes table.now.used plan.now.places plan.now.levels }
+    requires { KeptTested table.now.keys table.now.nodes table.now.used plan.now.places plan.now.levels }
     ensures { KeptTest counts.now table.now.keys table.now.nodes table.now.used plan.now.places plan.now.levels result }
 {
     let Some(counted) = count(table, plan) else {

@@ -13,4 +13,4 @@ returns-in_default c = λ rs cs ok. (
 )
 
 pub returns : goal.returns
-returns c = λ rs cs ok. kept_is rs cs _ c.requires.1 (c.in-Some.ensures rs cs ok) _ c.eq.ensures
+returns c = λ rs cs ok. kept_is rs cs _ c.told-counts (c.in-Some.ensures rs cs ok) _ c.eq.ensures
