@@ -1,8 +1,9 @@
 // The net as anybody may hold it and hand it in: its types, what a value says and which value a command hands back (specs/), and the laws that tie
-// the two (proofs/). No code but the numbers of the net rules.
+// the two (proofs/). No code but what a net rule is told as.
 #![tactic(auto)]
 
 ghost use Rattle.std.specs.Prelude.{◌≡◌};
+ghost use Rattle.model.specs.declared.Refusal.{Refusal};
 ghost use Rattle.value.specs.View.{rule_number};
 
 use ids::{Level, Node, Site, Ticket};
@@ -54,6 +55,15 @@ impl From<NetRule> for u8 {
             NetRule::Waiting => 7,
             NetRule::TooManyOpen => 9,
         }
+    }
+}
+
+// "A net is handed in, and it or its plan breaks a net rule": one refusal, whichever rule that is.
+impl From<NetRule> for Refusal {
+    ghost from_gives = { λ _ why. why ≡ Refusal.BrokenNet };
+
+    fn from(_rule: NetRule) -> Refusal {
+        Refusal::BrokenNet
     }
 }
 
