@@ -20,7 +20,7 @@ pub struct Call {
 
 // The plan; the open calls in the order of their opening, and how many there are; and for each site the active calls of each level, those of site s
 // from place 64 s on. A place behind the open calls is spare: what it holds is not looked at, and a command leaves zeros and `false` there.
-#[derive(Clone, Copy)]
+#[derive(Clone, Copy, PartialEq, Eq)]
 pub struct Net {
     pub plan: Plan,
     pub calls: [Call; Ticket::OPEN],
