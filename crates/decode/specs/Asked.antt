@@ -1,17 +1,17 @@
 -- The request at an offset, for the contracts of `decode`, and what the model calls it. Assumes nothing.
-use Rattle.std.specs.Prelude.{ℕ, zero, suc, ◌+◌, cond, List, length, get_or, drop, eqb}
-use Rattle.std.proofs.Math.Option.{Option, none, some}
+use Rattle.std.specs.Prelude.{ℕ, suc, ◌+◌, Option, Some, None, Result, Ok, Err, cond, List, length, get_or, drop, eqb}
+use Rattle.std.proofs.Math.Option.{Option as Maybe, none, some}
 use Rattle.model.specs.House.{Next, lacking, unknown, cut, whole, next}
 use Rattle.model.specs.Command.{start, call, return, take_back}
 use Rattle.model.specs.Transcript as transcript
 use Rattle.model.specs.Transcript.{command, question, room_question, command_kinds, word}
 use Rattle.decode.specs.declared.Request.{Request}
-use Rattle.decode.specs.declared.NextRequest.{NextRequest}
+use Rattle.decode.specs.declared.Unread.{Unread}
 
 -- the length that the table of kinds has
-abbrev pub size_told : ℕ → Option ℕ
-size_told zero = none
-size_told (suc n) = some (suc n)
+abbrev pub size_told : Option ℕ → Maybe ℕ
+size_told None = none
+size_told (Some size) = some size
 
 -- a record's kind and body
 abbrev pub request_of : ℕ → List ℕ → Request
@@ -22,14 +22,14 @@ request_of kind body =
     (cond (eqb kind 0x13) (Request.Ask (word body 0))
     (cond (eqb kind 0x15) (Request.TakeBack (word body 0)) (Request.Room (get_or body 0 0) (get_or body 1 0))))))
 
-abbrev pub request_from : Next → ℕ → NextRequest
-request_from lacking at = NextRequest.End
-request_from unknown at = NextRequest.Unknown
-request_from cut at = NextRequest.Cut
-request_from (whole kind body rest) at = NextRequest.Whole (request_of kind body) (at + suc (length body))
+abbrev pub request_from : Next → ℕ → Result (Request × ℕ) Unread
+request_from lacking at = Err Unread.End
+request_from unknown at = Err Unread.Unknown
+request_from cut at = Err Unread.Cut
+request_from (whole kind body rest) at = Ok (request_of kind body, at + suc (length body))
 
 -- what stands at an offset
-abbrev pub request_at : List ℕ → ℕ → NextRequest
+abbrev pub request_at : List ℕ → ℕ → Result (Request × ℕ) Unread
 request_at bytes at = request_from (next command_kinds (drop at bytes)) at
 
 -- the model's request

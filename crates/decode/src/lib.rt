@@ -1,7 +1,7 @@
 // One command of a run at a time, read from bytes. An inner crate: the library's own crates alone call it.
 #![tactic(auto)]
 
-ghost use Rattle.std.specs.Prelude.{◌+◌, ◌*◌, ◌≡◌};
+ghost use Rattle.std.specs.Prelude.{◌≡◌};
 ghost use Rattle.model.specs.Transcript.{command_kinds};
 ghost use Rattle.decode.specs.Asked.{size_told, request_of, request_at};
 
@@ -20,11 +20,9 @@ pub enum Request {
     TakeBack(u16),
 }
 
-// What stands where a command is due.
-#[derive(Clone, Copy)]
-pub enum NextRequest {
-    // The request and the offset behind it.
-    Whole(Request, usize),
+// What else may stand where a command is due.
+#[derive(Clone, Copy, PartialEq, Eq)]
+pub enum Unread {
     // Nothing.
     End,
     // The input ends where a body byte is due.
@@ -32,26 +30,16 @@ pub enum NextRequest {
     Unknown,
 }
 
-// How many bytes the body of a kind has, or 0 for a kind that is unknown: no command has an empty body.
-fn body_size(kind: u8) -> usize
+// How many bytes the body of a kind has, where the kind is known.
+fn body_size(kind: u8) -> Option<usize>
     ensures { size_told result ≡ command_kinds kind }
 {
     match kind {
-        0x10 => 3,
-        0x11 => 5,
-        0x12 => 2,
-        0x13 => 2,
-        0x14 => 2,
-        0x15 => 2,
-        _ => 0,
+        0x10 => Some(3),
+        0x11 => Some(5),
+        0x12..=0x15 => Some(2),
+        _ => None,
     }
-}
-
-// The number of two bytes, high byte first.
-fn word(high: u8, low: u8) -> u16
-    ensures { result ≡ 256 * high + low }
-{
-    256 * high as u16 + low as u16
 }
 
 // The request of a known kind by the bytes of its body.
@@ -61,12 +49,12 @@ fn request_in(kind: u8, body: &[u8]) -> Request
     let first = record::byte(body, 0);
     let second = record::byte(body, 1);
     let third = record::byte(body, 2);
-    let ticket = word(first, second);
+    let ticket = u16::from_be_bytes([first, second]);
     match kind {
         0x10 => Request::Start(third, ticket),
         0x11 => {
             let fourth = record::byte(body, 3);
-            let called = word(third, fourth);
+            let called = u16::from_be_bytes([third, fourth]);
             Request::Call(record::byte(body, 4), ticket, called)
         }
         0x12 => Request::Return(ticket),
@@ -76,22 +64,21 @@ fn request_in(kind: u8, body: &[u8]) -> Request
     }
 }
 
-// The request at an offset.
-pub fn next_request(bytes: &[u8], at: usize) -> NextRequest
+// The request at an offset, and the offset behind it.
+pub fn next_request(bytes: &[u8], at: usize) -> Result<(Request, usize), Unread>
     ensures { result ≡ request_at bytes.now at }
 {
     if bytes.len() <= at {
-        return NextRequest::End;
+        return Err(Unread::End);
     }
     let kind = bytes[at];
-    let size = body_size(kind);
-    if size == 0 {
-        return NextRequest::Unknown;
-    }
+    let Some(size) = body_size(kind) else {
+        return Err(Unread::Unknown);
+    };
     if bytes.len() - at - 1 < size {
-        return NextRequest::Cut;
+        return Err(Unread::Cut);
     }
     let start = at + 1;
     let end = start + size;
-    NextRequest::Whole(request_in(kind, &bytes[start..end]), end)
+    Ok((request_in(kind, &bytes[start..end]), end))
 }

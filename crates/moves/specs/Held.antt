@@ -1,6 +1,7 @@
 -- What the arrays inside a run hold: the open calls of a net, number by number, and the rooms of its sites. For the contracts of `moves`.
 -- Assumes nothing.
-use Rattle.std.specs.Prelude.{ℕ, ◌+◌, ◌-◌, ◌*◌, ◌<◌, ◌≡◌, Bool, true, cond, List, length, get_or, ltb, Option, Some, None}
+use Rattle.std.specs.Prelude.{ℕ, ◌+◌, ◌-◌, ◌*◌, ◌<◌, ◌≡◌, Bool, true, cond, List, length, get_or, ltb, Option}
+use Rattle.std.specs.Option.{unwrap_or}
 use Rattle.ids.specs.Limits.{sites, most_threads, most_open, no_ticket}
 use Rattle.lists.specs.Pick.{tell, first_place}
 use Rattle.moves.specs.declared.Running.{Running}
@@ -54,8 +55,7 @@ arrays_of r = arrays r.table.tickets r.table.parents r.table.keys r.table.nodes 
 
 -- a ticket, or the word for none
 abbrev pub served_told : Option ℕ → ℕ
-served_told None = no_ticket
-served_told (Some ticket) = ticket
+served_told answered = unwrap_or answered no_ticket
 
 -- the arrays hold the open calls of a net, which keep every rule but perhaps the one on waiting calls
 pub record Held (rs : List Record) (cs : List Call) (a : Arrays) (used : ℕ) : Type 0 where

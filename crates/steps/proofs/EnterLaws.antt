@@ -5,7 +5,7 @@ use mathlib.Core.Path.{◌≡◌, refl, sym, ap, subst, ◌∙◌}
 use mathlib.Core.Bool.{Bool, true, false, cond}
 use mathlib.Core.List.{List}
 use lib.ListN.{get_or}
-use Rattle.ids.specs.Limits.{sites, nodes, most_threads, most_open, no_ticket}
+use Rattle.ids.specs.Limits.{sites, nodes, most_threads, most_open}
 use Rattle.lists.specs.Count.{last}
 use Rattle.model.specs.Net.{Core, has_node, site_of, admissible, in_the_way, opened}
 use Rattle.model.specs.Steady.{Newcomer}
@@ -16,9 +16,9 @@ use Rattle.rooms.specs.Rooms.{no_room, Ranged}
 use Rattle.moves.specs.Held.{Arrays, Held, Placed, CanOpen}
 use Rattle.moves.proofs.OpenLaws.{level_inside, waits_for}
 use Rattle.faults.proofs.LadderLaws.{node_small}
-use Rattle.text.specs.declared.Printed.{Printed}
-use Rattle.text.specs.Lines.{of_answer}
-use Rattle.steps.specs.Running.{Running, Stepped, entering, CanEnter}
+use Rattle.std.specs.Prelude.{Option, Some, None}
+use Rattle.text.specs.Lines.{Shown, of_answer}
+use Rattle.steps.specs.Running.{Running, Stepped, entering, parent_word}
 use Rattle.steps.proofs.StandLaws.{runs_after}
 
 -- A listed node in the plan's arrays
@@ -48,63 +48,53 @@ module _ {net : Core} {a : Arrays} {used : ℕ} {most-of places levels edges : L
 
 -- The newcomer
 
-module _ (net : Core) (called : Bool) (parent ticket node number : ℕ) where
-  pub as_call : number ≡ fault net (call parent ticket node) → called ≡ true → number ≡ fault net (entering called parent ticket node)
-  as_call e is = e ∙ ap (λ (b : Bool). fault net (entering b parent ticket node)) (sym is)
+module _ (net : Core) (parent : Option ℕ) (ticket node number : ℕ) where
+  pub as_call : {caller : ℕ} → number ≡ fault net (call caller ticket node) → parent ≡ Some caller → number ≡ fault net (entering parent ticket node)
+  as_call e is = e ∙ ap (λ (p : Option ℕ). fault net (entering p ticket node)) (sym is)
 
-  pub as_start : number ≡ fault net (start ticket node) → called ≡ false → number ≡ fault net (entering called parent ticket node)
-  as_start e is = e ∙ ap (λ (b : Bool). fault net (entering b parent ticket node)) (sym is)
+  pub as_start : number ≡ fault net (start ticket node) → parent ≡ None → number ≡ fault net (entering parent ticket node)
+  as_start e is = e ∙ ap (λ (p : Option ℕ). fault net (entering p ticket node)) (sym is)
 
-module _ (net : Core) (called : Bool) (parent ticket node : ℕ) (no_parent : called ≡ false → parent ≡ no_ticket) where
-  entering_fits : fault net (entering called parent ticket node) ≡ 0 → Newcomer net.plan net.calls parent ticket node
-  entering_fits = go called no_parent
-    where
-      go : (b : Bool) → (b ≡ false → parent ≡ no_ticket) → fault net (entering b parent ticket node) ≡ 0
-          → Newcomer net.plan net.calls parent ticket node
-      go true none e = call_fits net parent ticket node e
-      go false none e =
-          subst (λ (p : ℕ). Newcomer net.plan net.calls p ticket node) (sym (none refl)) (start_fits net ticket node e)
+module _ (net : Core) (ticket node : ℕ) where
+  entering_fits : (parent : Option ℕ) → fault net (entering parent ticket node) ≡ 0 → Newcomer net.plan net.calls (parent_word parent) ticket node
+  entering_fits (Some caller) e = call_fits net caller ticket node e
+  entering_fits None e = start_fits net ticket node e
 
-  entering-done : done net (entering called parent ticket node) ≡ opening net.plan net.calls parent ticket node
-  entering-done = go called no_parent
-    where
-      go : (b : Bool) → (b ≡ false → parent ≡ no_ticket)
-          → done net (entering b parent ticket node) ≡ opening net.plan net.calls parent ticket node
-      go true none = refl
-      go false none = ap (λ (p : ℕ). opening net.plan net.calls p ticket node) (sym (none refl))
+  entering-done : (parent : Option ℕ) → done net (entering parent ticket node) ≡ opening net.plan net.calls (parent_word parent) ticket node
+  entering-done (Some caller) = refl
+  entering-done None = refl
 
-module _ {net : Core} {a : Arrays} {used : ℕ} {most-of places levels edges : List ℕ} {called : Bool} {parent : ℕ}
-    (ok : CanEnter net a used most-of places levels edges called parent) (ticket node number : ℕ)
-    (number_is : number ≡ fault net (entering called parent ticket node)) (passes : number ≡ 0) where
-  none_fails : fault net (entering called parent ticket node) ≡ 0
-  none_fails = sym number_is ∙ passes
+module _ {net : Core} {a : Arrays} {used : ℕ} {most-of places levels edges : List ℕ} (ok : Running net a used most-of places levels edges)
+    (parent : Option ℕ) (ticket node word : ℕ) (word_is : word ≡ parent_word parent) (passes : 0 ≡ fault net (entering parent ticket node)) where
+  none_fails : fault net (entering parent ticket node) ≡ 0
+  none_fails = sym passes
 
-  fits : Newcomer net.plan net.calls parent ticket node
-  fits = entering_fits net called parent ticket node ok.no_parent none_fails
+  fits : Newcomer net.plan net.calls word ticket node
+  fits = subst (λ (w : ℕ). Newcomer net.plan net.calls w ticket node) (sym word_is) (entering_fits net ticket node parent none_fails)
 
   pub node_there : node < nodes
-  node_there = node_inside ok.running node fits.listed_node
+  node_there = node_inside ok node fits.listed_node
 
   pub site_there : get_or places node 0 < sites
-  site_there = site_inside ok.running node fits.listed_node
+  site_there = site_inside ok node fits.listed_node
 
   pub room_left : used < most_open
-  room_left = omega (arith, ok.running.held.count, fits.room_left)
+  room_left = omega (arith, ok.held.count, fits.room_left)
 
-  pub can_open : CanOpen net.plan net.calls a used parent ticket node (get_or places node 0) (get_or levels node 0) (get_or most-of (get_or places node 0) 0)
-  can_open = record { held = ok.running.held; fits = fits; placed = node_placed ok.running node fits.listed_node }
+  pub can_open : CanOpen net.plan net.calls a used word ticket node (get_or places node 0) (get_or levels node 0) (get_or most-of (get_or places node 0) 0)
+  can_open = record { held = ok.held; fits = fits; placed = node_placed ok node fits.listed_node }
 
-  pub entry_ranged : (b : Arrays) (used-after : ℕ) → Held net.plan (opened net.plan net.calls parent ticket node) b used-after
+  pub entry_ranged : (b : Arrays) (used-after : ℕ) → Held net.plan (opened net.plan net.calls word ticket node) b used-after
       → Ranged b.rooms (most_threads * get_or places node 0) (get_or levels node 0)
   entry_ranged b used-after held =
-      record { inside = omega (arith, held.of_rooms.whole, site_there); level_small = level_inside ok.running.held can_open.placed }
+      record { inside = omega (arith, held.of_rooms.whole, site_there); level_small = level_inside ok.held can_open.placed }
 
   -- what is said of it: that it is active, or what is in its way as the rooms show it
   abbrev told : Bool → List ℕ → Answer
   told admitted rooms = cond admitted active (waiting (last (suc (get_or levels node 0)) (no_room rooms (most_threads * get_or places node 0))))
 
-  told_is : (b : Arrays) → Held net.plan (opened net.plan net.calls parent ticket node) b (used + 1)
-      → told (admissible net.plan net.calls node) b.rooms ≡ (opening net.plan net.calls parent ticket node).answer
+  told_is : (b : Arrays) → Held net.plan (opened net.plan net.calls word ticket node) b (used + 1)
+      → told (admissible net.plan net.calls node) b.rooms ≡ (opening net.plan net.calls word ticket node).answer
   unfolding opening
   told_is b held = go (admissible net.plan net.calls node) refl
     where
@@ -113,13 +103,13 @@ module _ {net : Core} {a : Arrays} {used : ℕ} {most-of places levels edges : L
       go true e = refl
       go false e = ap waiting (waits_for can_open e b (used + 1) held)
 
-  pub entered : {b : Arrays} {admitted : Bool} {what : Printed} → what ≡ of_answer (told admitted b.rooms)
-      → (admitted ≡ admissible net.plan net.calls node) × Held net.plan (opened net.plan net.calls parent ticket node) b (used + 1)
-      → Stepped (step net (entering called parent ticket node)) b (used + 1) what most-of places levels edges
+  pub entered : {b : Arrays} {admitted : Bool} {what : Shown} → what ≡ of_answer (told admitted b.rooms)
+      → (admitted ≡ admissible net.plan net.calls node) × Held net.plan (opened net.plan net.calls word ticket node) b (used + 1)
+      → Stepped (step net (entering parent ticket node)) b (used + 1) what most-of places levels edges
   unfolding opening
   entered {b} says after =
-      let command = entering called parent ticket node in
-      runs_after ok.running command (opened net.plan net.calls parent ticket node) (opening net.plan net.calls parent ticket node).answer
-      (accepted_step net command none_fails ∙ entering-done net called parent ticket node ok.no_parent)
+      let command = entering parent ticket node in
+      runs_after ok command (opened net.plan net.calls word ticket node) (opening net.plan net.calls word ticket node).answer
+      (accepted_step net command none_fails ∙ entering-done net ticket node parent ∙ ap (λ (w : ℕ). opening net.plan net.calls w ticket node) (sym word_is))
       (says ∙ ap (λ (x : Bool). of_answer (told x b.rooms)) after.0 ∙ ap of_answer (told_is b after.1))
       after.1

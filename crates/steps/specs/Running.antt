@@ -1,5 +1,6 @@
 -- What the arrays of a run hold of a net and of its plan, and what the commands and the questions make of it. For the contracts of `steps`. Assumes nothing.
-use Rattle.std.specs.Prelude.{ℕ, ◌<◌, ◌≡◌, Bool, true, false, List, length, get_or}
+use Rattle.std.specs.Prelude.{ℕ, ◌<◌, ◌≡◌, true, Option, Some, None, List, length, get_or}
+use Rattle.std.specs.Option.{unwrap_or}
 use Rattle.ids.specs.Limits.{sites, nodes, no_ticket}
 use Rattle.model.specs.Plan.{Record, threads, six, passes}
 use Rattle.model.specs.Net.{Call, Core, has_node, site_of, level_of, counts}
@@ -8,8 +9,7 @@ use Rattle.model.specs.Steady.{Lawful}
 use Rattle.model.specs.Command.{Command, start, call, return, take_back, fault, Outcome, step, ask, room_at}
 use Rattle.moves.specs.Held.{Tells, key_of, RoomsTell, Arrays, arrays, Held}
 use Rattle.faults.specs.Seen.{Listing, Edging, Ticketed, CallSeen}
-use Rattle.text.specs.declared.Printed.{Printed}
-use Rattle.text.specs.Lines.{of_answer, of_standing, of_room}
+use Rattle.text.specs.Lines.{Shown, of_answer, of_standing, of_room}
 
 -- the lent threads of the sites
 pub record Staffed (rs : List Record) (most-of : List ℕ) : Type 0 where
@@ -32,41 +32,40 @@ pub record Running (net : Core) (a : Arrays) (used : ℕ) (most-of places levels
   pub planned : Planned net.plan most-of places levels edges
 
 -- what a command answers and what it leaves
-pub record Stepped (after : Outcome) (b : Arrays) (used : ℕ) (what : Printed) (most-of places levels edges : List ℕ) : Type 0 where
+pub record Stepped (after : Outcome) (b : Arrays) (used : ℕ) (what : Shown) (most-of places levels edges : List ℕ) : Type 0 where
   pub says : what ≡ of_answer after.answer
   pub runs_on : Running after.core b used most-of places levels edges
 
 -- A start or a call
 
-abbrev pub entering : Bool → ℕ → ℕ → ℕ → Command
-entering true parent ticket node = call parent ticket node
-entering false parent ticket node = start ticket node
+abbrev pub entering : Option ℕ → ℕ → ℕ → Command
+entering (Some parent) ticket node = call parent ticket node
+entering None ticket node = start ticket node
+
+-- the word that is stored for its parent
+abbrev pub parent_word : Option ℕ → ℕ
+parent_word parent = unwrap_or parent no_ticket
 
 -- what stands in its way, told of whichever net the arrays hold
-abbrev pub EntryFault : List ℕ → List ℕ → List ℕ → List ℕ → List ℕ → ℕ → Bool → ℕ → ℕ → ℕ → ℕ → Type 0
-EntryFault tickets keys open-nodes places edges used called parent ticket node number =
+abbrev pub EntryFault : List ℕ → List ℕ → List ℕ → List ℕ → List ℕ → ℕ → Option ℕ → ℕ → ℕ → ℕ → Type 0
+EntryFault tickets keys open-nodes places edges used parent ticket node number =
     (rs : List Record) (cs : List Call) → CallSeen rs cs tickets keys open-nodes places edges used
-    → number ≡ fault (record { plan = rs; calls = cs }) (entering called parent ticket node)
+    → number ≡ fault (record { plan = rs; calls = cs }) (entering parent ticket node)
 
--- a start has no parent
-pub record CanEnter (net : Core) (a : Arrays) (used : ℕ) (most-of places levels edges : List ℕ) (called : Bool) (parent : ℕ) : Type 0 where
-  pub running : Running net a used most-of places levels edges
-  pub no_parent : called ≡ false → parent ≡ no_ticket
+abbrev pub Enterable : Arrays → ℕ → List ℕ → List ℕ → List ℕ → List ℕ → Type 0
+Enterable a used most-of places levels edges = (net : Core) × Running net a used most-of places levels edges
 
-abbrev pub Enterable : Arrays → ℕ → List ℕ → List ℕ → List ℕ → List ℕ → Bool → ℕ → Type 0
-Enterable a used most-of places levels edges called parent = (net : Core) × CanEnter net a used most-of places levels edges called parent
-
-abbrev pub Enters : Arrays → Arrays → ℕ → ℕ → Printed → List ℕ → List ℕ → List ℕ → List ℕ → Bool → ℕ → ℕ → ℕ → Type 0
-Enters a b used used-after what most-of places levels edges called parent ticket node =
-    (net : Core) → CanEnter net a used most-of places levels edges called parent
-    → Stepped (step net (entering called parent ticket node)) b used-after what most-of places levels edges
+abbrev pub Enters : Arrays → Arrays → ℕ → ℕ → Shown → List ℕ → List ℕ → List ℕ → List ℕ → Option ℕ → ℕ → ℕ → Type 0
+Enters a b used used-after what most-of places levels edges parent ticket node =
+    (net : Core) → Running net a used most-of places levels edges
+    → Stepped (step net (entering parent ticket node)) b used-after what most-of places levels edges
 
 -- A return, which looks at no edge
 
 abbrev pub Leavable : Arrays → ℕ → List ℕ → List ℕ → List ℕ → Type 0
 Leavable a used most-of places levels = (net : Core) × (edges : List ℕ) × Running net a used most-of places levels edges
 
-abbrev pub Leaves : Arrays → Arrays → ℕ → ℕ → Printed → List ℕ → List ℕ → List ℕ → ℕ → Type 0
+abbrev pub Leaves : Arrays → Arrays → ℕ → ℕ → Shown → List ℕ → List ℕ → List ℕ → ℕ → Type 0
 Leaves a b used used-after what most-of places levels ticket =
     (net : Core) (edges : List ℕ) → Running net a used most-of places levels edges
     → Stepped (step net (return ticket)) b used-after what most-of places levels edges
@@ -77,7 +76,7 @@ abbrev pub Withdrawable : List ℕ → List ℕ → List ℕ → List ℕ → �
 Withdrawable tickets parents keys open-nodes used =
     (net : Core) × (rooms most-of places levels edges : List ℕ) × Running net (arrays tickets parents keys open-nodes rooms) used most-of places levels edges
 
-abbrev pub Withdraws : List ℕ → List ℕ → List ℕ → List ℕ → List ℕ → List ℕ → List ℕ → List ℕ → ℕ → ℕ → Printed → ℕ → Type 0
+abbrev pub Withdraws : List ℕ → List ℕ → List ℕ → List ℕ → List ℕ → List ℕ → List ℕ → List ℕ → ℕ → ℕ → Shown → ℕ → Type 0
 Withdraws tickets parents keys open-nodes tickets' parents' keys' open-nodes' used used-after what ticket =
     (net : Core) (rooms most-of places levels edges : List ℕ)
     → Running net (arrays tickets parents keys open-nodes rooms) used most-of places levels edges
@@ -90,7 +89,7 @@ pub record AskSeen (net : Core) (tickets keys : List ℕ) (used : ℕ) : Type 0 
   pub calls_told : Ticketed net.plan net.calls tickets used
   pub of_keys : Tells (key_of net.plan) net.calls keys
 
-abbrev pub Asks : List ℕ → List ℕ → ℕ → ℕ → Printed → Type 0
+abbrev pub Asks : List ℕ → List ℕ → ℕ → ℕ → Shown → Type 0
 Asks tickets keys used ticket what = (net : Core) → AskSeen net tickets keys used → what ≡ of_standing (ask net ticket)
 
 -- A room
@@ -101,5 +100,5 @@ pub record RoomSeen (net : Core) (rooms most-of : List ℕ) : Type 0 where
   pub of_rooms : RoomsTell net.plan (counts net.plan net.calls) rooms
   pub staffed : Staffed net.plan most-of
 
-abbrev pub RoomAsked : List ℕ → List ℕ → ℕ → ℕ → Printed → Type 0
+abbrev pub RoomAsked : List ℕ → List ℕ → ℕ → ℕ → Shown → Type 0
 RoomAsked rooms most-of site level what = (net : Core) → RoomSeen net rooms most-of → what ≡ of_room (room_at net site level)

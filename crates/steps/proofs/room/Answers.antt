@@ -6,11 +6,11 @@ use Rattle.steps.proofs.room.Goals as goal
 pub returns-then-site-ge-COUNT : goal.returns-then-site-ge-COUNT
 returns-then-site-ge-COUNT c = λ net seen. no_site seen _ _ (omega (arith, c.if-site-ge-COUNT.true))
 
-pub returns-then-level-threads : goal.returns-then-level-threads
-returns-then-level-threads c = λ net seen. too_high seen _ _ (omega (arith, c.if-site-ge-COUNT.false)) (omega (arith, c.if-level-threads.true))
+pub returns-then-level-plan : goal.returns-then-level-plan
+returns-then-level-plan c = λ net seen. too_high seen _ _ (omega (arith, c.if-site-ge-COUNT.false)) (omega (arith, c.if-level-plan.true))
 
 pub smallest-requires : goal.smallest-requires
-smallest-requires c = room-ranged c.requires.1 _ _ (omega (arith, c.if-site-ge-COUNT.false)) (omega (arith, c.if-level-threads.false))
+smallest-requires c = room-ranged c.requires.1 _ _ (omega (arith, c.if-site-ge-COUNT.false)) (omega (arith, c.if-level-plan.false))
 
 pub returns : goal.returns
-returns c = λ net seen. room_there seen _ _ (omega (arith, c.if-site-ge-COUNT.false)) (omega (arith, c.if-level-threads.false)) _ c.smallest.ensures
+returns c = λ net seen. room_there seen _ _ (omega (arith, c.if-site-ge-COUNT.false)) (omega (arith, c.if-level-plan.false)) _ c.smallest.ensures
