@@ -1,30 +1,20 @@
 -- What each request answers and leaves is what the run's line and the net after it say: a question leaves the net as it was. Assumes nothing.
 use Prim.Native.Nat.{ℕ}
-use mathlib.Core.Path.{◌≡◌, refl, sym, ap, subst, ◌∙◌}
-use mathlib.Core.Bool.{true, false}
+use mathlib.Core.Path.{◌≡◌, sym, ap, subst, ◌∙◌}
 use mathlib.Core.List.{List}
-use Rattle.ids.specs.Limits.{no_ticket}
 use Rattle.model.specs.Net.{Core}
 use Rattle.model.specs.Command.{Command, start, call, return, take_back, step, ask, room_at}
 use Rattle.model.specs.Transcript as transcript
 use Rattle.model.specs.Transcript.{command, line, after}
 use Rattle.moves.specs.Held.{Arrays}
-use Rattle.text.specs.declared.Printed.{Printed}
-use Rattle.text.specs.Lines.{of_standing, of_room}
+use Rattle.text.specs.Lines.{Shown, of_standing, of_room}
 use Rattle.text.proofs.LineLaws.{start_line, call_line, return_line, back_line, ask-line, room-line}
 use Rattle.decode.specs.declared.Request.{Request}
-use Rattle.steps.specs.Running.{Running, CanEnter, Stepped}
+use Rattle.steps.specs.Running.{Running, Stepped}
 use Rattle.decode.specs.Asked.{asked}
 use Rattle.turns.specs.Turn.{request_line, answer_to, Answered}
 
-module _ {net : Core} {a : Arrays} {used : ℕ} {most-of places levels edges : List ℕ} (run : Running net a used most-of places levels edges) where
-  pub may_start : CanEnter net a used most-of places levels edges false no_ticket
-  may_start = record { running = run; no_parent = λ e. refl }
-
-  pub may_call : (parent : ℕ) → CanEnter net a used most-of places levels edges true parent
-  may_call parent = record { running = run; no_parent = λ e. cc }
-
-module _ (net : Core) {b : Arrays} {used : ℕ} {what : Printed} {most-of places levels edges : List ℕ} where
+module _ (net : Core) {b : Arrays} {used : ℕ} {what : Shown} {most-of places levels edges : List ℕ} where
   -- the request is known by what it is matched with
   known_as : {q r : Request} → q ≡ r → Answered net r b used what most-of places levels edges → Answered net q b used what most-of places levels edges
   known_as e h = rw e h
@@ -61,7 +51,7 @@ module _ (net : Core) {b : Arrays} {used : ℕ} {what : Printed} {most-of places
     asked-room s k e says = known_as e (record { says = says; runs_on = run })
 
 -- the line that is printed of an answer is the request's
-line-is : (net : Core) (q : Request) (what : Printed) → what ≡ answer_to net (asked q) → line net (asked q) ≡ request_line q what
+line-is : (net : Core) (q : Request) (what : Shown) → what ≡ answer_to net (asked q) → line net (asked q) ≡ request_line q what
 line-is net (Request.Start node ticket) what e = start_line net ticket node what (sym e)
 line-is net (Request.Call node parent ticket) what e = call_line net parent ticket node what (sym e)
 line-is net (Request.Return ticket) what e = return_line net ticket what (sym e)
@@ -69,12 +59,12 @@ line-is net (Request.TakeBack ticket) what e = back_line net ticket what (sym e)
 line-is net (Request.Ask ticket) what e = ask-line net ticket what (sym e)
 line-is net (Request.Room s k) what e = room-line net s k what (sym e)
 
-pub line_said : {net : Core} {q : Request} {b : Arrays} {used : ℕ} {what : Printed} {most-of places levels edges : List ℕ}
+pub line_said : {net : Core} {q : Request} {b : Arrays} {used : ℕ} {what : Shown} {most-of places levels edges : List ℕ}
     → Answered net q b used what most-of places levels edges → line net (asked q) ≡ request_line q what
 line_said {net} {q} {b} {used} {what} h = line-is net q what h.says
 
 -- a command's answer is that of its step
-pub command_stepped : {net : Core} {q : Request} {b : Arrays} {used : ℕ} {what : Printed} {most-of places levels edges : List ℕ}
+pub command_stepped : {net : Core} {q : Request} {b : Arrays} {used : ℕ} {what : Shown} {most-of places levels edges : List ℕ}
     → Answered net q b used what most-of places levels edges → (c : Command) → asked q ≡ command c
     → Stepped (step net c) b used what most-of places levels edges
 unfolding after

@@ -7,15 +7,14 @@ use Rattle.model.specs.Command.{step, ask, room_at}
 use Rattle.model.specs.Transcript as transcript
 use Rattle.model.specs.Transcript.{command, question, room_question, line, after}
 use Rattle.moves.specs.Held.{Arrays}
-use Rattle.text.specs.declared.Printed.{Printed}
-use Rattle.text.specs.Lines.{of_answer, of_standing, of_room, line_text, line2_text}
+use Rattle.text.specs.Lines.{Shown, of_answer, of_standing, of_room, line_text, line2_text}
 use Rattle.text.specs.Put.{Put}
 use Rattle.decode.specs.Asked.{asked}
 use Rattle.decode.specs.declared.Request.{Request}
 use Rattle.steps.specs.Running.{Running}
 
 -- the line of a request: its letter, its numbers and the answer
-abbrev pub request_line : Request → Printed → Text
+abbrev pub request_line : Request → Shown → Text
 request_line (Request.Start node ticket) what = line_text 83 ticket what
 request_line (Request.Call node parent ticket) what = line2_text 67 parent ticket what
 request_line (Request.Return ticket) what = line_text 69 ticket what
@@ -29,17 +28,17 @@ abbrev pub Answerable : Arrays → ℕ → List ℕ → List ℕ → List ℕ �
 Answerable a used most-of places levels edges = (net : Core) × Running net a used most-of places levels edges
 
 -- what is printed of the model's answer to a request
-abbrev pub answer_to : Core → transcript.Request → Printed
+abbrev pub answer_to : Core → transcript.Request → Shown
 answer_to net (command c) = of_answer (step net c).answer
 answer_to net (question ticket) = of_standing (ask net ticket)
 answer_to net (room_question s k) = of_room (room_at net s k)
 
 -- what a request answers and what it leaves
-pub record Answered (net : Core) (request : Request) (b : Arrays) (used : ℕ) (what : Printed) (most-of places levels edges : List ℕ) : Type 0 where
+pub record Answered (net : Core) (request : Request) (b : Arrays) (used : ℕ) (what : Shown) (most-of places levels edges : List ℕ) : Type 0 where
   pub says : what ≡ answer_to net (asked request)
   pub runs_on : Running (after net (asked request)) b used most-of places levels edges
 
-abbrev pub Answers : Arrays → Arrays → ℕ → ℕ → Printed → List ℕ → List ℕ → List ℕ → List ℕ → Request → Type 0
+abbrev pub Answers : Arrays → Arrays → ℕ → ℕ → Shown → List ℕ → List ℕ → List ℕ → List ℕ → Request → Type 0
 Answers a b used used-after what most-of places levels edges request =
     (net : Core) → Running net a used most-of places levels edges → Answered net request b used-after what most-of places levels edges
 

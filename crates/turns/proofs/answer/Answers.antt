@@ -1,21 +1,21 @@
 -- `turns::answer` meets its contract: each request is answered by its own step, and a question leaves the arrays as they are. Assumes nothing.
 use Rattle.steps.proofs.SeenLaws.{ask_seen, room_seen}
-use Rattle.turns.proofs.AnswerLaws.{may_start, may_call, started, called, returned, taken_back, asked-standing, asked-room}
+use Rattle.turns.proofs.AnswerLaws.{started, called, returned, taken_back, asked-standing, asked-room}
 use Rattle.turns.proofs.answer.Goals as goal
 
 pub enter-requires : goal.enter-requires
 enter-requires c = let ok = c.requires in
-    (ok.0, may_start ok.1)
+    (ok.0, ok.1)
 
 pub returns-in-Start : goal.returns-in-Start
-returns-in-Start c = λ net run. started net _ _ c.in-Start.is (c.enter.ensures net (may_start run))
+returns-in-Start c = λ net run. started net _ _ c.in-Start.is (c.enter.ensures net run)
 
 pub enter-requires-in-Call : goal.enter-requires-in-Call
 enter-requires-in-Call c = let ok = c.requires in
-    (ok.0, may_call ok.1 _)
+    (ok.0, ok.1)
 
 pub returns-in-Call : goal.returns-in-Call
-returns-in-Call c = λ net run. called net _ _ _ c.in-Call.is (c.enter-in-Call.ensures net (may_call run _))
+returns-in-Call c = λ net run. called net _ _ _ c.in-Call.is (c.enter-in-Call.ensures net run)
 
 pub leave-requires : goal.leave-requires
 leave-requires c = let ok = c.requires in

@@ -6,5 +6,5 @@ use Rattle.turns.proofs.turn.Goals as goal
 
 pub returns : goal.returns
 returns c = λ net run.
-    let said = c.answer-done.ensures net run in
-    record { runs_on = said.runs_on; written = put_as (sym (line_said said)) c.print-behind.ensures }
+    let said = c.answer-what.ensures net run in
+    record { runs_on = said.runs_on; written = put_as (sym (line_said said)) c.print.ensures }
