@@ -16,11 +16,11 @@ use Rattle.model.proofs.HouseLaws.{whole_split}
 use Rattle.model.proofs.TranscriptLaws.{lines_enough}
 use Rattle.decode.specs.Asked.{asked, request_at, request_from, request_of}
 use Rattle.decode.specs.declared.Request.{Request}
-use Rattle.decode.specs.declared.NextRequest.{NextRequest}
+use Rattle.std.specs.Prelude.{Ok}
 use Rattle.decode.proofs.AskedLaws.{asked-request}
 use Rattle.runs.specs.Went.{Went, nowhere, further, stop_of}
 use Rattle.runs.specs.declared.Stop.{Stop}
-use Rattle.runs.proofs.WentLaws.{behind_inside}
+use Rattle.runs.proofs.WentLaws.{same_found, behind_inside}
 
 -- what the decoder found, in the model's words
 pub record WholeRequest (bytes : List ℕ) (at : ℕ) (q : Request) (behind : ℕ) : Type 0 where
@@ -30,16 +30,16 @@ pub record WholeRequest (bytes : List ℕ) (at : ℕ) (q : Request) (behind : �
   pub asked_is : asked q ≡ request kind body
   pub behind_is : behind ≡ at + suc (length body)
 
-pub whole_found : (bytes : List ℕ) (at : ℕ) (q : Request) (behind : ℕ) → NextRequest.Whole q behind ≡ request_at bytes at → WholeRequest bytes at q behind
+pub whole_found : (bytes : List ℕ) (at : ℕ) (q : Request) (behind : ℕ) → Ok (q, behind) ≡ request_at bytes at → WholeRequest bytes at q behind
 whole_found bytes at q behind e = go (next command_kinds (drop at bytes)) refl e
   where
-    go : (n : Next) → next command_kinds (drop at bytes) ≡ n → NextRequest.Whole q behind ≡ request_from n at → WholeRequest bytes at q behind
+    go : (n : Next) → next command_kinds (drop at bytes) ≡ n → Ok (q, behind) ≡ request_from n at → WholeRequest bytes at q behind
     go lacking is e = let z : ◌≡◌ {A = ℕ} 0 1 = cc in absurd (omega arith)
     go unknown is e = let z : ◌≡◌ {A = ℕ} 0 1 = cc in absurd (omega arith)
     go cut is e = let z : ◌≡◌ {A = ℕ} 0 1 = cc in absurd (omega arith)
     go (whole kind body rest) is e =
-        let same-request : q ≡ request_of kind body = cc in
-        let same_place : behind ≡ at + suc (length body) = cc in
+        let same-request = (same_found e).0 in
+        let same_place = (same_found e).1 in
         let there : rest ≡ drop behind bytes
         = sym (drop-append_seam (kind ∷ body) rest)
         ∙ ap (drop (suc (length body))) (sym (whole_split command_kinds (drop at bytes) kind body rest is))
@@ -60,7 +60,7 @@ opens : (turns : ℕ) (net : Core) (at count : ℕ) (bytes : List ℕ)
 unfolding lines
 opens turns net at count bytes = refl
 
-turn_tells : (bytes : List ℕ) (net : Core) (at count : ℕ) (q : Request) (behind : ℕ) → NextRequest.Whole q behind ≡ request_at bytes at
+turn_tells : (bytes : List ℕ) (net : Core) (at count : ℕ) (q : Request) (behind : ℕ) → Ok (q, behind) ≡ request_at bytes at
     → (turns : ℕ) → length bytes < turns
     → lines turns net at count (drop at bytes) ≡ line net (asked q) ++ lines turns (after net (asked q)) behind (count + 1) (drop behind bytes)
 turn_tells bytes net at count q behind e zero h = absurd (omega arith)
@@ -104,7 +104,7 @@ last_line Stop.Unknown at commands = bad_line 2 at
 -- "The last line is `done` .. or `bad`": a run that stops at no whole command wrote every line but the last
 pub run_tells : {bytes : List ℕ} {size : ℕ} {first : Core} {from : ℕ} {net : Core} {at commands : ℕ} {text : Text}
     → Went bytes size first from net at commands text
-    → ((q : Request) (behind : ℕ) → NextRequest.Whole q behind ≡ request_at bytes at → ⊥)
+    → ((q : Request) (behind : ℕ) → Ok (q, behind) ≡ request_at bytes at → ⊥)
     → lines (suc (length bytes)) first from 0 (drop from bytes) ≡ text ++ last_line (stop_of (request_at bytes at)) at commands
 run_tells {bytes} {first} {from} {net} {at} {commands} {text} went none-whole =
     lines_went went (suc (length bytes)) 0 (omega arith)
@@ -113,7 +113,7 @@ run_tells {bytes} {first} {from} {net} {at} {commands} {text} went none-whole =
     same : 0 + commands ≡ commands
     same = omega arith
 
-    go : (n : Next) → ((q : Request) (behind : ℕ) → NextRequest.Whole q behind ≡ request_from n at → ⊥)
+    go : (n : Next) → ((q : Request) (behind : ℕ) → Ok (q, behind) ≡ request_from n at → ⊥)
         → lines_by (lines (length bytes)) net at (0 + commands) n ≡ last_line (stop_of (request_from n at)) at commands
     go lacking none_there = ap done_line same
     go unknown none_there = refl

@@ -1,6 +1,6 @@
 -- How far a run went, told of whichever net the arrays hold: command after command, each with the net after it and its line behind the last one. For the
 -- contracts of `runs`. Assumes nothing.
-use Rattle.std.specs.Prelude.{ℕ, ◌+◌, ◌-◌, ◌≤◌, ◌<◌, ◌≡◌, List, [], ◌++◌, length}
+use Rattle.std.specs.Prelude.{ℕ, Result, Ok, Err, ◌+◌, ◌-◌, ◌≤◌, ◌<◌, ◌≡◌, List, [], ◌++◌, length}
 use Rattle.model.specs.Net.{Core}
 use Rattle.model.specs.Text.{Text}
 use Rattle.model.specs.Transcript.{line, after}
@@ -9,7 +9,7 @@ use Rattle.text.specs.Put.{Put}
 use Rattle.text.specs.Room.{line_room}
 use Rattle.decode.specs.Asked.{asked, request_at}
 use Rattle.decode.specs.declared.Request.{Request}
-use Rattle.decode.specs.declared.NextRequest.{NextRequest}
+use Rattle.decode.specs.declared.Unread.{Unread}
 use Rattle.steps.specs.Running.{Running}
 use Rattle.runs.specs.declared.Stop.{Stop}
 use Rattle.runs.specs.declared.Ran.{Ran}
@@ -18,20 +18,20 @@ use Rattle.runs.specs.declared.Ran.{Ran}
 pub data Went (bytes : List ℕ) (size : ℕ) (first : Core) (from : ℕ) : Core → ℕ → ℕ → Text → Type 0 where
   nowhere : Went bytes size first from first from 0 []
   further : {net : Core} {at commands : ℕ} {lines : Text} → Went bytes size first from net at commands lines → length lines + line_room ≤ size
-      → (request : Request) (behind : ℕ) → NextRequest.Whole request behind ≡ request_at bytes at
+      → (request : Request) (behind : ℕ) → Ok (request, behind) ≡ request_at bytes at
       → Went bytes size first from (after net (asked request)) behind (commands + 1) (lines ++ line net (asked request))
 
 -- what stands where a command is due, as a reason to stop
-abbrev pub stop_of : NextRequest → Stop
-stop_of (NextRequest.Whole request behind) = Stop.Full
-stop_of NextRequest.End = Stop.End
-stop_of NextRequest.Cut = Stop.Cut
-stop_of NextRequest.Unknown = Stop.Unknown
+abbrev pub stop_of : Result (Request × ℕ) Unread → Stop
+stop_of (Ok found) = Stop.Full
+stop_of (Err Unread.End) = Stop.End
+stop_of (Err Unread.Cut) = Stop.Cut
+stop_of (Err Unread.Unknown) = Stop.Unknown
 
 -- no room for a line, and else no whole command
 pub data Stops (bytes : List ℕ) (at room : ℕ) (why : Stop) : Type 0 where
   full : room < line_room → why ≡ Stop.Full → Stops bytes at room why
-  no_command : line_room ≤ room → ((request : Request) (behind : ℕ) → NextRequest.Whole request behind ≡ request_at bytes at → ⊥)
+  no_command : line_room ≤ room → ((request : Request) (behind : ℕ) → Ok (request, behind) ≡ request_at bytes at → ⊥)
       → why ≡ stop_of (request_at bytes at) → Stops bytes at room why
 
 -- where a run stands
@@ -43,8 +43,8 @@ pub record RunStands (first : Core) (b : Arrays) (used : ℕ) (most-of places le
   pub runs_on : Running net b used most-of places levels edges
   pub written : Put old 0 lines new to
 
-abbrev pub ArraysRun : Arrays → Arrays → ℕ → Ran → List ℕ → List ℕ → List ℕ → List ℕ → List ℕ → ℕ → List ℕ → List ℕ → Type 0
-ArraysRun a b used r most-of places levels edges bytes from old new =
+abbrev pub ArraysRun : Arrays → Arrays → ℕ → ℕ → Ran → List ℕ → List ℕ → List ℕ → List ℕ → List ℕ → ℕ → List ℕ → List ℕ → Type 0
+ArraysRun a b used used-after r most-of places levels edges bytes from old new =
     (first : Core) → Running first a used most-of places levels edges
-    → RunStands first b r.used most-of places levels edges bytes from r.at r.commands old new r.to
+    → RunStands first b used-after most-of places levels edges bytes from r.at r.commands old new r.to
     × Stops bytes r.at (length new - r.to) r.why

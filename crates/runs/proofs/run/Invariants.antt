@@ -3,14 +3,15 @@
 use Prim.Native.Nat.{◌-◌}
 use lib.ListN.{length}
 use Rattle.model.specs.Net.{Core}
-use Rattle.moves.specs.Held.{arrays}
+use Rattle.moves.specs.Held.{arrays_of}
 use Rattle.steps.specs.Running.{Running}
 use Rattle.runs.specs.Went.{RunStands}
 use Rattle.runs.proofs.run.Given as goal
 
 abbrev pub invariant-loop-text : goal.invariant-loop-text
-invariant-loop-text l = (first : Core) → Running first (arrays l.initial.tickets l.initial.parents l.initial.keys l.initial.nodes l.initial.rooms) l.used l.threads l.places l.levels l.edges
-    → RunStands first (arrays l.tickets l.parents l.keys l.nodes l.rooms) l.calls l.threads l.places l.levels l.edges l.bytes l.from l.at l.commands l.initial.text l.text l.to
+invariant-loop-text l = (first : Core)
+    → Running first (arrays_of l.initial.running) l.initial.running.table.used l.plan.threads l.plan.places l.plan.levels l.edges.rows
+    → RunStands first (arrays_of l.running) l.running.table.used l.plan.threads l.plan.places l.plan.levels l.edges.rows l.bytes l.from l.at l.commands l.initial.text l.text l.to
 
 abbrev pub decreases-loop-text : goal.decreases-loop-text
 decreases-loop-text l = length l.bytes - l.at
