@@ -1,3 +1,4 @@
 pub mod BrokenLaws
 pub mod HeldLaws
 pub mod PartLaws
+pub mod ReadyLaws

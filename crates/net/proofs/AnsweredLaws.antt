@@ -11,8 +11,8 @@ use Rattle.std.specs.Result.{IsErrAnd}
 use lib.ListN.{length, get_or}
 use lib.Dec.{eqb, ltb}
 use borrow.Author.Tests.{eq-eqb, ne_eqb}
-use Rattle.ids.specs.Limits.{most_open, most_edges, nodes}
-use Rattle.model.specs.Plan.{Record, has_edge}
+use Rattle.ids.specs.Limits.{most_open, most_edges}
+use Rattle.model.specs.Plan.{Record}
 use Rattle.model.specs.PlanValue.{records_of}
 use Rattle.model.specs.Net.{Call, lookup}
 use Rattle.model.specs.NetRules.{broken_rule}
@@ -24,16 +24,13 @@ use Rattle.model.proofs.NetRuleLaws.{rules_exactly}
 use Rattle.model.proofs.StepLaws.{step_plan}
 use Rattle.moves.specs.Held.{Arrays, Held, arrays_of}
 use Rattle.moves.specs.declared.Running.{Running as Run}
-use Rattle.links.specs.Rows.{RowsTell}
-use Rattle.faults.specs.Seen.{Edging}
 use Rattle.steps.specs.Running.{Stepped, Running, RoomSeen}
 use Rattle.text.specs.declared.Printed.{Printed}
 use Rattle.text.specs.Lines.{a_refusal, shown_told, of_room}
-use Rattle.value.specs.View.{call_of, spare, core_of, row_of, broken, rule_number}
+use Rattle.value.specs.View.{call_of, spare, core_of, row_of, broken}
 use Rattle.value.specs.Handed.{outcome_value, command_answered, standing_value, ask_answered, room_value, room_answered}
 use Rattle.value.specs.declared.Net.{Net}
 use Rattle.value.specs.declared.Commanded.{Commanded}
-use Rattle.value.specs.declared.NetRule.{NetRule}
 use Rattle.value.specs.declared.Standing.{Standing as StandingValue}
 use Rattle.lookup.specs.Lookup.{place_in, placed}
 use Rattle.lookup.proofs.FoundLaws.{StandsAt, nowhere, there, stands_at}
@@ -46,20 +43,6 @@ module _ (net : Net) where
   its_plan = refl
 
   -- A broken rule
-
-  -- a rule's number is none of a sound net
-  pub rule_breaks : (rule : NetRule) → rule_number rule ≡ broken net → broken net ≡ 0 → ⊥
-  rule_breaks rule is sound = named rule (is ∙ sound)
-    where
-      named : (r : NetRule) → rule_number r ≡ 0 → ⊥
-      named NetRule.Plan e = omega arith
-      named NetRule.Tickets e = omega arith
-      named NetRule.Nodes e = omega arith
-      named NetRule.Parents e = omega arith
-      named NetRule.Counts e = omega arith
-      named NetRule.Sites e = omega arith
-      named NetRule.Waiting e = omega arith
-      named NetRule.TooManyOpen e = omega arith
 
   module _ (bad : broken net ≡ 0 → ⊥) where
     not_sound : eqb (broken net) 0 ≡ false
@@ -181,10 +164,6 @@ module _ (net : Net) where
 pub room_seen : (net : Net) {a : Arrays} {used : ℕ} {most-of places levels edges : List ℕ} → Running (core_of net) a used most-of places levels edges
     → RoomSeen (core_of net) a.rooms most-of
 room_seen net run = record { pass = run.keeps.plan_passes; law = run.keeps.sites_lawful; of_rooms = run.held.of_rooms; staffed = run.planned.staffed }
-
--- the words of the call edges are those of the plan
-pub edging : (net : Net) {edges : List ℕ} → length edges ≡ nodes → RowsTell edges (has_edge (records_of net.plan)) → Edging (records_of net.plan) edges
-edging net whole tells = record { whole = whole; tells = tells }
 
 -- a refusal that is handed on is that refusal
 pub refused_is : {A : Type 0} (r : Result A Refusal) (why : Refusal) → IsErrAnd r (λ e. e ≡ why) → r ≡ Err why

@@ -1,7 +1,8 @@
 -- `net::ask` meets its contract: 19 where a rule is broken; else what stands at the place that the search answers. Assumes nothing.
 use native.Mathlib.Omega.{arith}
 use mathlib.Core.Path.{◌∙◌}
-use Rattle.net.proofs.AnsweredLaws.{refused_is, rule_breaks, broken-asked, asked_nobody, inside_there, asked-active, asked_waiting}
+use Rattle.entry.proofs.ReadyLaws.{rule_breaks}
+use Rattle.net.proofs.AnsweredLaws.{refused_is, broken-asked, asked_nobody, inside_there, asked-active, asked_waiting}
 use borrow.Author.Rules.{rules}
 use Rattle.net.proofs.ask.Goals as goal
 

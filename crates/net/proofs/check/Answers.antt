@@ -1,5 +1,5 @@
 -- `net::check` meets its contract: the edges are the plan's, and the answer is that of the tests. Assumes nothing.
-use Rattle.net.proofs.AnsweredLaws.{edging}
+use Rattle.entry.proofs.ReadyLaws.{edging}
 use borrow.Author.Rules.{rules}
 use Rattle.net.proofs.check.Goals as goal
 

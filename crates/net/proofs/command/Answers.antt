@@ -1,7 +1,8 @@
 -- `net::command` meets its contract: 19 where a rule is broken; else the run holds the net, and what it holds behind the command is handed back. Assumes
 -- nothing.
 use Rattle.turns.proofs.AnswerLaws.{command_stepped}
-use Rattle.net.proofs.AnsweredLaws.{edging, rule_breaks, broken_answered, step-answered, handing}
+use Rattle.entry.proofs.ReadyLaws.{edging, rule_breaks}
+use Rattle.net.proofs.AnsweredLaws.{broken_answered, step-answered, handing}
 use borrow.Author.Rules.{rules}
 use Rattle.net.proofs.command.Goals as goal
 

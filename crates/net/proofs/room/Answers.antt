@@ -4,7 +4,8 @@ use Rattle.model.specs.Command.{room_at}
 use Rattle.value.specs.View.{core_of}
 use Rattle.steps.specs.Running.{RoomAsked}
 use Rattle.text.specs.Lines.{accepted_told}
-use Rattle.net.proofs.AnsweredLaws.{edging, refused_is, refused_room, rule_breaks, broken-room, room_there, room_seen}
+use Rattle.entry.proofs.ReadyLaws.{edging, rule_breaks}
+use Rattle.net.proofs.AnsweredLaws.{refused_is, refused_room, broken-room, room_there, room_seen}
 use borrow.Author.Rules.{rules}
 use Rattle.net.proofs.room.Goals as goal
 
