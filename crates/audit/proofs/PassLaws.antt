@@ -219,22 +219,11 @@ module _ (p : Plan) where
         let d = get_or p.callees i 0 in
         edge_test (edges_below i) pass c d _ _ _ (node_there i c) (node_there i d) (edge_follows i) (omega (arith, edges_so_far i)))
 
-    -- in the order of the code: the first kind that has an entry that does not fit decides
+    -- in the order of the code
     module _ (few : p.edges ≤ most_edges) where
-      records-pass-is : records_pass p
+      pub records-pass-is : records_pass p
           ≡ ((sites_fit p.threads && nodes_fit p.threads p.places p.levels) && edges_fit p.places p.callers p.callees p.edges)
       unfolding records_pass
       records-pass-is =
           let count : min p.edges most_edges ≡ p.edges = omega arith in
           rw (le-leb p.edges most_edges few, records_each p, count, edges_pass p.edges few, nodes_pass, sites_pass)
-
-      pub sites-decide : sites_fit p.threads ≡ false → false ≡ records_pass p
-      sites-decide bad = rw (records-pass-is, bad)
-
-      module _ (sites-good : sites_fit p.threads ≡ true) where
-        pub nodes-decide : nodes_fit p.threads p.places p.levels ≡ false → false ≡ records_pass p
-        nodes-decide bad = rw (records-pass-is, sites-good, bad)
-
-        pub edges-decide : nodes_fit p.threads p.places p.levels ≡ true
-            → (r : Bool) → r ≡ edges_fit p.places p.callers p.callees p.edges → r ≡ records_pass p
-        edges-decide nodes-good r e = rw (records-pass-is, sites-good, nodes-good) e

@@ -2,181 +2,140 @@
 // reads a file's record, and then the whole plan is checked. What passes is handed on in its one form, from which a net is made.
 #![tactic(auto)]
 
-ghost use Rattle.std.specs.Prelude.{◌≡◌, ◌<◌, ◌≤◌, length};
+ghost use Rattle.std.specs.Prelude.{◌≡◌, ◌<◌, ◌≤◌, IsOk};
 ghost use Rattle.ids.specs.Limits.{sites, nodes, most_edges};
 ghost use Rattle.model.specs.PlanValue.{records_of};
-ghost use Rattle.audit.specs.Taken.{Taken, Takes, sites_to, nodes_to};
-ghost use Rattle.audit.specs.Audits.{Audits, records_pass, refused_audit};
-ghost use Rattle.audit.specs.Fits.{node_fits, pair_fits, sites_fit, nodes_fit, edges_fit};
+ghost use Rattle.record.specs.Step.{told_check, value_fault, stored_in};
+ghost use Rattle.audit.specs.Taken.{Taken, sites_to, nodes_to};
+ghost use Rattle.audit.specs.Audits.{Audits, Kept, records_pass};
+ghost use Rattle.audit.specs.Fits.{node_fits, pair_fits, edge_fits, sites_fit, nodes_fit, edges_fit};
 
 use ids::{Level, Node, Site};
 use model::{Plan, PlanRecord, PlanRefusal};
-use record::Checked;
 
-// The first fault of a plan, and the plan as it may be kept: in its one form, or the empty plan beside a fault.
+// The first fault of a plan, or that it has none, and the plan as it may be kept: in its one form, or the empty plan beside a fault.
+// kept: a Result of the plan would leave each caller to make the empty plan, which is promised beside a fault.
 #[derive(Clone, Copy)]
 pub struct Audited {
-    pub checked: Checked,
+    pub checked: Result<(), PlanRefusal>,
     pub plan: Plan,
 }
 
-// Some records that were taken up: their first fault, and as long as there is none the plan of these records and the last one.
+// Some records that were taken up and have no fault: the plan of these records, and the last one.
 #[derive(Clone, Copy)]
 struct Audit {
-    checked: Checked,
     plan: Plan,
     last: PlanRecord,
 }
 
-// Takes up one record more. Behind a fault nothing counts.
-fn take(audit: Audit, next: PlanRecord) -> Audit
-    ensures { Takes audit next result }
-{
-    let so_far = audit.checked;
-    if let Checked::Refused(_) = so_far {
-        return audit;
-    }
-    let plan = audit.plan;
-    let last = audit.last;
-    let checked = record::check(&plan.threads, &plan.places, plan.edges, last, next);
-    if let Checked::Refused(_) = checked {
-        return Audit {
-            checked,
-            plan,
-            last,
-        };
-    }
-    Audit {
-        checked,
-        plan: record::store(plan, next),
-        last: next,
+impl Audit {
+    // Takes up one record more, where it has no fault.
+    fn take(&mut self, next: PlanRecord) -> Result<(), PlanRefusal>
+        ensures fault { told_check result ≡ value_fault self.old.plan.threads self.old.plan.places self.old.plan.edges self.old.last next }
+        ensures taken { IsOk result → (self.new.plan ≡ stored_in self.old.plan next) × (self.new.last ≡ next) }
+    {
+        record::check(&self.plan, self.last, next)?;
+        record::store_in(&mut self.plan, next);
+        self.last = next;
+        Ok(())
     }
 }
 
 // The site records.
-fn take_sites(plan: Plan) -> Audit
-    ensures { Taken (sites_to plan sites) result }
+fn take_sites(plan: &Plan) -> Result<Audit, PlanRefusal>
+    ensures { Taken (sites_to plan.now sites) result }
 {
     let mut audit = Audit {
-        checked: Checked::Passed,
         plan: record::empty(),
         last: PlanRecord::End,
     };
     for s in 0..Site::COUNT {
         let threads = plan.threads[s];
         if threads != 0 {
-            audit = take(audit, PlanRecord::Site(Site(s as u8), threads));
+            audit.take(PlanRecord::Site(Site(s as u8), threads))?;
         }
     }
-    audit
+    Ok(audit)
 }
 
 // The site records and the node records.
-fn take_nodes(plan: Plan) -> Audit
-    ensures { Taken (nodes_to plan nodes) result }
+fn take_nodes(plan: &Plan) -> Result<Audit, PlanRefusal>
+    ensures { Taken (nodes_to plan.now nodes) result }
 {
-    let mut audit = take_sites(plan);
+    let mut audit = take_sites(plan)?;
     for n in 0..Node::COUNT {
         let place = plan.places[n];
         if place != Plan::NOWHERE {
-            let level = plan.levels[n];
-            audit = take(
-                audit,
-                PlanRecord::Node(Node(n as u8), Site(place), Level(level)),
-            );
+            let level = Level(plan.levels[n]);
+            audit.take(PlanRecord::Node(Node(n as u8), Site(place), level))?;
         }
     }
-    audit
+    Ok(audit)
 }
 
 // All records of a plan whose edges have places.
-fn take_records(plan: Plan) -> Audit
-    requires { plan.edges ≤ most_edges }
-    ensures { Taken (records_of plan) result }
+fn take_records(plan: &Plan) -> Result<Audit, PlanRefusal>
+    requires { plan.now.edges ≤ most_edges }
+    ensures { Taken (records_of plan.now) result }
 {
-    let mut audit = take_nodes(plan);
+    let mut audit = take_nodes(plan)?;
     for i in 0..plan.edges {
-        let caller = plan.callers[i];
-        let callee = plan.callees[i];
-        audit = take(audit, PlanRecord::Edge(Node(caller), Node(callee)));
+        let caller = Node(plan.callers[i]);
+        let callee = Node(plan.callees[i]);
+        audit.take(PlanRecord::Edge(caller, callee))?;
     }
-    audit
+    Ok(audit)
 }
 
 // Whether each site has at most 64 threads; 0 is no site.
-fn sites_pass(threads: &[u8]) -> bool
-    requires { length threads.now ≡ sites }
-    ensures { result ≡ sites_fit threads.now }
+fn sites_pass(plan: &Plan) -> bool
+    ensures { result ≡ sites_fit plan.now.threads }
 {
-    for site in 0..Site::COUNT {
-        if threads[site] as usize > Site::THREADS {
-            return false;
-        }
-    }
-    true
+    (0..Site::COUNT).all(|s| plan.threads[s] as usize <= Site::THREADS)
 }
 
 // Whether a node has no record, or its level is below its site's threads; a site without a record has none.
-fn node_fits<'a>(threads: &'a [u8], places: &'a [u8], levels: &'a [u8], n: usize) -> bool
-    requires { (n < length places.now) × (n < length levels.now) }
-    ensures { result ≡ node_fits threads.now places.now levels.now n }
+#[tactic(auto, unfolding(crate::specs::Fits::node_fits))]
+fn node_fits(plan: &Plan, n: usize) -> bool
+    requires { n < nodes }
+    ensures { result ≡ node_fits plan.now.threads plan.now.places plan.now.levels n }
 {
-    let place = places[n];
-    if place == Plan::NOWHERE {
-        return true;
-    }
-    levels[n] < record::byte(threads, place as usize)
+    let place = plan.places[n];
+    place == Plan::NOWHERE || plan.levels[n] < record::byte(&plan.threads, place as usize)
 }
 
 // The same of all nodes.
-fn nodes_pass<'a>(threads: &'a [u8], places: &'a [u8], levels: &'a [u8]) -> bool
-    requires { (length places.now ≡ nodes) × (length levels.now ≡ nodes) }
-    ensures { result ≡ nodes_fit threads.now places.now levels.now }
+fn nodes_pass(plan: &Plan) -> bool
+    ensures { result ≡ nodes_fit plan.now.threads plan.now.places plan.now.levels }
 {
-    for n in 0..Node::COUNT {
-        if !node_fits(threads, places, levels, n) {
-            return false;
-        }
-    }
-    true
+    (0..Node::COUNT).all(|n| node_fits(plan, n))
 }
 
 // Whether the pair at a place rises from the one before it.
-fn pair_fits<'a>(callers: &'a [u8], callees: &'a [u8], i: usize) -> bool
-    requires { (i < length callers.now) × (i < length callees.now) }
-    ensures { result ≡ pair_fits callers.now callees.now i }
+fn pair_fits(plan: &Plan, i: usize) -> bool
+    requires { i < most_edges }
+    ensures { result ≡ pair_fits plan.now.callers plan.now.callees i }
 {
-    if i == 0 {
-        return true;
-    }
-    let before = callers[i - 1];
-    let caller = callers[i];
-    if before < caller {
-        return true;
-    }
-    if before != caller {
-        return false;
-    }
-    callees[i - 1] < callees[i]
+    i == 0 || (plan.callers[i - 1], plan.callees[i - 1]) < (plan.callers[i], plan.callees[i])
 }
 
-// Whether each edge is between nodes that have records, and the pairs rise.
-fn edges_pass<'a>(places: &'a [u8], callers: &'a [u8], callees: &'a [u8], edges: usize) -> bool
-    requires { (edges ≤ length callers.now) × (edges ≤ length callees.now) }
-    ensures { result ≡ edges_fit places.now callers.now callees.now edges }
+// Whether an edge is between nodes that have records, and its pair rises.
+#[tactic(auto, unfolding(crate::specs::Fits::edge_fits))]
+fn edge_fits(plan: &Plan, i: usize) -> bool
+    requires { i < most_edges }
+    ensures { result ≡ edge_fits plan.now.places plan.now.callers plan.now.callees i }
 {
-    for i in 0..edges {
-        if !record::has_node(places, Node(callers[i])) {
-            return false;
-        }
-        if !record::has_node(places, Node(callees[i])) {
-            return false;
-        }
-        if !pair_fits(callers, callees, i) {
-            return false;
-        }
-    }
-    true
+    record::has_node(&plan.places, Node(plan.callers[i]))
+        && record::has_node(&plan.places, Node(plan.callees[i]))
+        && pair_fits(plan, i)
+}
+
+// The same of all edges.
+fn edges_pass(plan: &Plan) -> bool
+    requires { plan.now.edges ≤ most_edges }
+    ensures { result ≡ edges_fit plan.now.places plan.now.callers plan.now.callees plan.now.edges }
+{
+    (0..plan.edges).all(|i| edge_fits(plan, i))
 }
 
 // Whether a plan's count of edges has places and its records pass the checks on single records: what a net asks of its plan. The arrays are looked at
@@ -187,23 +146,19 @@ pub fn passes(plan: Plan) -> bool
     if Node::EDGES < plan.edges {
         return false;
     }
-    if !sites_pass(&plan.threads) {
-        return false;
-    }
-    if !nodes_pass(&plan.threads, &plan.places, &plan.levels) {
-        return false;
-    }
-    edges_pass(&plan.places, &plan.callers, &plan.callees, plan.edges)
+    sites_pass(&plan) && nodes_pass(&plan) && edges_pass(&plan)
 }
 
-// A refusal, with the empty plan.
-fn refused(why: PlanRefusal) -> Audited
-    ensures { result ≡ refused_audit why }
+// A plan in its one form, or its first fault.
+fn kept(plan: &Plan) -> Result<Plan, PlanRefusal>
+    ensures { Kept plan.now result }
 {
-    Audited {
-        checked: Checked::Refused(why),
-        plan: record::empty(),
+    if plan.edges > Node::EDGES {
+        return Err(PlanRefusal::TooManyEdges);
     }
+    let held = take_records(plan)?.plan;
+    record::check_end(held)?;
+    Ok(held)
 }
 
 // The first fault of a plan, of those that the checks 3 to 9 name. What stands where no record is, levels of unlisted nodes and pairs behind the
@@ -211,21 +166,14 @@ fn refused(why: PlanRefusal) -> Audited
 pub fn check(plan: Plan) -> Audited
     ensures { Audits plan result }
 {
-    if plan.edges > Node::EDGES {
-        return refused(PlanRefusal::TooManyEdges);
-    }
-    let audit = take_records(plan);
-    let checked = audit.checked;
-    if let Checked::Refused(why) = checked {
-        return refused(why);
-    }
-    let held = audit.plan;
-    let ended = record::check_end(held);
-    if let Checked::Refused(why) = ended {
-        return refused(why);
-    }
-    Audited {
-        checked: ended,
-        plan: held,
+    match kept(&plan) {
+        Ok(held) => Audited {
+            checked: Ok(()),
+            plan: held,
+        },
+        Err(why) => Audited {
+            checked: Err(why),
+            plan: record::empty(),
+        },
     }
 }

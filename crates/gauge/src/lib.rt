@@ -5,17 +5,13 @@ ghost use Rattle.std.specs.Prelude.{◌≡◌, get_or};
 ghost use Rattle.model.specs.Reading.{read as reading};
 ghost use Rattle.model.specs.PlanValue.{reading_told};
 
-use model::ReadAnswer;
-
 // 0 for a plan that is accepted, else the refusal's number in document 01: the first number that a reading tells.
 #[unsafe(no_mangle)]
 pub extern "C" fn plan_refusal(bytes: &[u8]) -> u8
     ensures { result ≡ get_or (reading_told (reading bytes.now)) 0 0 }
 {
-    let read = plan::read(bytes);
-    let answer = read.answer;
-    match answer {
-        ReadAnswer::Accepted(_) => 0,
-        ReadAnswer::Refused(why, _) => plan::refusal_number(why),
+    match plan::read(bytes).answer {
+        Ok(_) => 0,
+        Err(fault) => u8::from(fault.why),
     }
 }

@@ -3,8 +3,8 @@
 #![tactic(auto)]
 
 use ids::{Node, Site};
-use model::{Plan, ReadAnswer};
-use writing::WriteAnswer;
+use model::Plan;
+use writing::WriteRefusal;
 
 // A byte that no file has: its numbers are at most 64.
 const UNTOUCHED: u8 = 170;
@@ -16,30 +16,31 @@ fn say(rt: &HostRuntime, words: &[u8]) {
     let _ = rt.write_all(words);
 }
 
-fn say_answer(rt: &HostRuntime, answer: WriteAnswer) {
+fn say_answer(rt: &HostRuntime, answer: Result<usize, WriteRefusal>) {
     match answer {
-        WriteAnswer::Written(length) => {
+        Ok(length) => {
             let _ = rt.print(length);
         }
-        WriteAnswer::BrokenPlan => say(rt, b"R 18"),
-        WriteAnswer::ShortBuffer => say(rt, b"R 10"),
+        Err(why) => {
+            say(rt, b"R ");
+            let _ = rt.print(u8::from(why));
+        }
     }
 }
 
 // Some bytes from the start on.
 fn say_front(rt: &HostRuntime, bytes: &[u8], shown: usize) {
-    if bytes.len() < shown {
-        return;
+    if let Some(front) = bytes.get(..shown) {
+        say(rt, front);
     }
-    say(rt, &bytes[..shown]);
 }
 
 // Lends so many of these bytes; where there are not so many, none.
-fn lend(plan: Plan, bytes: &mut [u8], length: usize) -> WriteAnswer {
-    if bytes.len() < length {
-        return WriteAnswer::ShortBuffer;
-    }
-    writing::write(plan, &mut bytes[..length])
+fn lend(plan: Plan, bytes: &mut [u8], length: usize) -> Result<usize, WriteRefusal> {
+    let Some(lent) = bytes.get_mut(..length) else {
+        return Err(WriteRefusal::ShortBuffer);
+    };
+    writing::write(plan, lent)
 }
 
 // The answer for a buffer of some length; then so many bytes from its start on, also where they were not lent.
@@ -134,8 +135,7 @@ fn main(rt: HostRuntime) {
     let mut input = [0u8; MOST];
     let got = streams::read_full(&mut rt.stdin(), &mut input);
     let read = plan::read(&input[..got]);
-    let answer = read.answer;
-    if let ReadAnswer::Accepted(used) = answer {
+    if let Ok(used) = read.answer {
         try_lengths(&rt, read.plan, used);
     }
     show_values(&rt);

@@ -3,6 +3,7 @@
 use Prim.Native.Nat.{ℕ, ◌+◌, ◌-◌, ◌<◌}
 use native.Mathlib.Omega.{arith}
 use mathlib.Core.Path.{◌≡◌, refl, sym, ap, subst, ◌∙◌}
+use Rattle.std.specs.Prelude.{Ok, Err}
 use mathlib.Core.List.{List, [], ◌∷◌}
 use lib.Dec.{eqb}
 use borrow.Author.Tests.{eq-eqb, ne_eqb}
@@ -13,30 +14,24 @@ use Rattle.model.specs.PlanValue.{value, records_of, empty_plan, refusal_number,
 use Rattle.model.specs.declared.Plan.{Plan}
 use Rattle.model.specs.declared.PlanRead.{PlanRead}
 use Rattle.model.specs.declared.PlanRefusal.{PlanRefusal}
-use Rattle.model.specs.declared.ReadAnswer.{ReadAnswer}
+use Rattle.model.specs.declared.ReadFault.{ReadFault}
 use Rattle.model.proofs.ReadingLaws.{read-accepts, read_refuses, checks_last, encode-length}
 use Rattle.model.proofs.RecordLaws.{passes_ok}
 use Rattle.model.proofs.PlanValueLaws.{records_value}
 use Rattle.model.proofs.RefusalLaws.{refusal_named}
 use Rattle.record.specs.Whole.{WholeFault}
 use Rattle.record.proofs.WholeLaws.{whole_is}
-use Rattle.plan.specs.Answers.{ReadTold, refused_read, accepted_read}
+use Rattle.plan.specs.Answers.{ReadTold}
 
-pub refused_answers : {r : PlanRead} {back : Plan} {reading : Reading} (why : PlanRefusal) (at : ℕ)
-    → r ≡ refused_read why at back → back ≡ empty_plan → reading ≡ refused_at (refusal_number why) at → ReadTold r reading
+pub refused_answers : {r : PlanRead} {reading : Reading} (why : PlanRefusal) (at : ℕ)
+    → r.answer ≡ Err (record { why = why; offset = at }) → r.plan ≡ empty_plan → reading ≡ refused_at (refusal_number why) at → ReadTold r reading
 refused_answers why at e none f =
-    record {
-      answer_is = ap (λ (x : PlanRead). told_read x.answer) e ∙ sym (ap reading_told f);
-      plan_is = ap (λ (x : PlanRead). x.plan) e ∙ none ∙ sym (ap reading_plan f);
-    }
+    record { answer_is = ap told_read e ∙ sym (ap reading_told f); plan_is = none ∙ sym (ap reading_plan f) }
 
-pub accepted_answers : {r : PlanRead} {plan : Plan} {reading : Reading} (rs : List Record) (used : ℕ)
-    → r ≡ accepted_read used plan → plan ≡ value rs → reading ≡ accepted rs used → ReadTold r reading
+pub accepted_answers : {r : PlanRead} {reading : Reading} (rs : List Record) (used : ℕ)
+    → r.answer ≡ Ok used → r.plan ≡ value rs → reading ≡ accepted rs used → ReadTold r reading
 accepted_answers rs used e is f =
-    record {
-      answer_is = ap (λ (x : PlanRead). told_read x.answer) e ∙ sym (ap reading_told f);
-      plan_is = ap (λ (x : PlanRead). x.plan) e ∙ is ∙ sym (ap reading_plan f);
-    }
+    record { answer_is = ap told_read e ∙ sym (ap reading_told f); plan_is = is ∙ sym (ap reading_plan f) }
 
 module _ (bytes : List ℕ) where
   read_is : read bytes ≡ end_checked end_fault (scanned bytes)
@@ -44,13 +39,13 @@ module _ (bytes : List ℕ) where
   read_is = checks_last six end_fault bytes
 
   -- a reading that stopped before the end record
-  pub stops_early : (s : PlanRead) (why : PlanRefusal) (at : ℕ) → s.answer ≡ ReadAnswer.Refused why at → ReadTold s (scanned bytes)
+  pub stops_early : (s : PlanRead) (fault : ReadFault) → s.answer ≡ Err fault → ReadTold s (scanned bytes)
       → ReadTold s (read bytes)
-  stops_early s why at is told = go (scanned bytes) refl told
+  stops_early s fault is told = go (scanned bytes) refl told
     where
       go : (x : Reading) → scanned bytes ≡ x → ReadTold s x → ReadTold s (read bytes)
       go (accepted rs used) e a =
-          let z : refusal_number why ≡ 0 = head-same (sym (ap told_read is) ∙ a.answer_is) in absurd ((refusal_named why).1 z)
+          let z : refusal_number fault.why ≡ 0 = head-same (sym (ap told_read is) ∙ a.answer_is) in absurd ((refusal_named fault.why).1 z)
         where
           head-same : {m n : ℕ} {a b : List ℕ} → m ∷ a ≡ n ∷ b → m ≡ n
           head-same p = cc
@@ -64,7 +59,7 @@ module _ (bytes : List ℕ) where
     pub scanned-is : scanned bytes ≡ accepted records used
     pub end_byte : 0 < used
 
-  pub reached : (s : PlanRead) (used : ℕ) → s.answer ≡ ReadAnswer.Accepted used → ReadTold s (scanned bytes) → Reached s.plan used
+  pub reached : (s : PlanRead) (used : ℕ) → s.answer ≡ Ok used → ReadTold s (scanned bytes) → Reached s.plan used
   unfolding scanned
   reached s used is told = go (scanned bytes) refl told
     where
@@ -95,7 +90,7 @@ module _ (bytes : List ℕ) where
     read_finished = read_is ∙ ap (end_checked end_fault) at-end.scanned-is
 
     -- with no fault there, it is what is read
-    pub passes_end : (s : PlanRead) → s.answer ≡ ReadAnswer.Accepted used → s.plan ≡ plan → WholeFault plan 0 → ReadTold s (read bytes)
+    pub passes_end : (s : PlanRead) → s.answer ≡ Ok used → s.plan ≡ plan → WholeFault plan 0 → ReadTold s (read bytes)
     passes_end s is same fault =
         let back : used - 1 + 1 ≡ used = omega (arith, at-end.end_byte) in
         let whole : read bytes ≡ accepted at-end.records used

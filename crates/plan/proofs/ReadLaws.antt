@@ -2,15 +2,14 @@
 -- reading's theorems name. Assumes nothing.
 use Prim.Native.Nat.{ℕ, ◌+◌, ◌≤◌, ◌<◌}
 use native.Mathlib.Omega.{arith}
-use mathlib.Core.Path.{◌≡◌, refl, sym, ap, ap₂, ◌∙◌}
-use mathlib.Core.Logic.{⊎_elim}
+use mathlib.Core.Path.{◌≡◌, refl, sym, ap, ap₂, subst, ◌∙◌}
+use mathlib.Core.Logic.{inl, inr}
+use Rattle.std.specs.Prelude.{Result, Ok, Err}
 use mathlib.Core.Bool.{true}
 use mathlib.Core.Option.{some}
 use mathlib.Core.List.{List, [], ◌∷◌, ◌++◌, append_assoc}
 use lib.ListN.{length, drop, length-append}
 use lib.Seq.{drop_at}
-use types.Run.{OneOf}
-use denote.Enum.Declared.{tag_of}
 use Rattle.model.specs.House.{Next, next, lacking, unknown, cut, whole}
 use Rattle.model.specs.Plan.{Record, six, record_fault, passes, plan_kinds, bytes_of, records_bytes}
 use Rattle.model.specs.Reading.{accepted, refused_at, unchecked, scanned}
@@ -25,12 +24,11 @@ use Rattle.model.proofs.ReadingLaws.{read-accepts, read_refuses, encode_rest, en
 use Rattle.model.proofs.ScanLaws.{passes-step}
 use Rattle.model.proofs.RecordLaws.{passes_ok}
 use Rattle.model.proofs.RefusalLaws.{refusal_named}
-use Rattle.record.specs.contracts.NextRecord as next-type
-use Rattle.record.specs.Step.{of_record, last_of, next_in, from_next, value_fault}
-use Rattle.record.proofs.RecordFaults.{fault_same}
-use Rattle.record.specs.declared.NextRecord.{NextRecord}
-use Rattle.plan.specs.Answers.{why_unread}
-use Rattle.plan.proofs.StandsLaws.{as_record, Stands, stands}
+use Rattle.record.specs.Step.{of_record, last_of, next_in, from_next, value_fault, stored_in}
+use Rattle.record.proofs.RecordFaults.{fault_same, storable, stored_same}
+use Rattle.record.specs.declared.Found.{Found}
+use Rattle.plan.specs.Answers.{Turn}
+use Rattle.plan.proofs.StandsLaws.{Whole, as_record, Stands, stands}
 
 -- The way
 
@@ -77,36 +75,21 @@ module _ (bytes : List ℕ) (plan : Plan) (last : PlanRecord) (at : ℕ) (way : 
       })
 
   -- what cannot be read
-  unknown_stops : next_in bytes at ≡ NextRecord.Unknown → scanned bytes ≡ refused_at 2 at
+  unread_stops : (why : PlanRefusal) → next_in bytes at ≡ Err why → scanned bytes ≡ refused_at (refusal_number why) at
   unfolding fault_at
-  unknown_stops e = refuses 2 (λ z. omega arith) (go (next plan_kinds (drop at bytes)) e)
+  unread_stops why e = refuses (refusal_number why) (refusal_named why).1 (go (next plan_kinds (drop at bytes)) e)
     where
-      go : (n : Next) → from_next n at ≡ NextRecord.Unknown → fault_next six unchecked way.records n ≡ 2
-      go lacking q = let z : ◌≡◌ {A = ℕ} 0 1 = cc in absurd (omega arith)
-      go unknown q = refl
-      go cut q = let z : ◌≡◌ {A = ℕ} 0 1 = cc in absurd (omega arith)
-      go (whole k b r) q = let z : ◌≡◌ {A = ℕ} 0 1 = cc in absurd (omega arith)
+      told : (w : PlanRefusal) → ◌≡◌ {A = Result Found PlanRefusal} (Err w) (Err why) → refusal_number w ≡ refusal_number why
+      told w q = let same : w ≡ why = cc in ap refusal_number same
 
-  cut_stops : next_in bytes at ≡ NextRecord.Cut → scanned bytes ≡ refused_at 1 at
-  unfolding fault_at
-  cut_stops e = refuses 1 (λ z. omega arith) (go (next plan_kinds (drop at bytes)) e)
-    where
-      go : (n : Next) → from_next n at ≡ NextRecord.Cut → fault_next six unchecked way.records n ≡ 1
-      go lacking q = refl
-      go unknown q = let z : ◌≡◌ {A = ℕ} 0 1 = cc in absurd (omega arith)
-      go cut q = refl
-      go (whole k b r) q = let z : ◌≡◌ {A = ℕ} 0 1 = cc in absurd (omega arith)
-
-  -- (a match leaves the tags of the two)
-  pub unread_stops : (found : NextRecord) → next_in bytes at ≡ found → OneOf (1 ∷ 2 ∷ []) (tag_of next-type.the_type found)
-      → scanned bytes ≡ refused_at (refusal_number (why_unread found)) at
-  unread_stops (NextRecord.Whole r behind) e k =
-      ⊎_elim (λ (z : ◌≡◌ {A = ℕ} 0 1). absurd (omega arith)) (λ (z : ◌≡◌ {A = ℕ} 0 2). absurd (omega arith)) k
-  unread_stops NextRecord.Cut e k = cut_stops e
-  unread_stops NextRecord.Unknown e k = unknown_stops e
+      go : (n : Next) → from_next n at ≡ Err why → fault_next six unchecked way.records n ≡ refusal_number why
+      go lacking q = told PlanRefusal.InputEnds q
+      go unknown q = told PlanRefusal.UnknownKind q
+      go cut q = told PlanRefusal.InputEnds q
+      go (whole k b r) q = absurd (cc)
 
   -- the end record
-  pub end_stops : (behind : ℕ) → next_in bytes at ≡ NextRecord.Whole PlanRecord.End behind → scanned bytes ≡ accepted way.records behind
+  pub end_stops : (behind : ℕ) → next_in bytes at ≡ Whole PlanRecord.End behind → scanned bytes ≡ accepted way.records behind
   unfolding scanned
   end_stops behind e =
       let t = stands bytes at PlanRecord.End behind e in
@@ -120,7 +103,7 @@ module _ (bytes : List ℕ) (plan : Plan) (last : PlanRecord) (at : ℕ) (way : 
       })
 
   -- a record, with what its checks answer
-  module _ (r : Record) (behind : ℕ) (e : next_in bytes at ≡ NextRecord.Whole (of_record r) behind) where
+  module _ (r : Record) (behind : ℕ) (e : next_in bytes at ≡ Whole (of_record r) behind) where
     here : Stands (drop at bytes) at (some r) behind
     here = go r (stands bytes at (of_record r) behind e)
       where
@@ -178,27 +161,40 @@ module _ (bytes : List ℕ) (plan : Plan) (last : PlanRecord) (at : ℕ) (way : 
           passing = (passes-step six r way.records).1 (way.passing, sym checked ∙ sym f);
         }
 
-  -- any record of the file
-  module _ (nx : PlanRecord) (behind : ℕ) (e : next_in bytes at ≡ NextRecord.Whole nx behind) where
-    pub stopped : (why : PlanRefusal) → refusal_number why ≡ value_fault plan.threads plan.places plan.edges last nx
-        → scanned bytes ≡ refused_at (refusal_number why) at
-    stopped why f = go nx e f
-      where
-        real : refusal_number why ≡ 0 → ⊥
-        real = (refusal_named why).1
+  -- any record of the file that has a fault
+  misfit_stops : (found : Found) → next_in bytes at ≡ Ok found → (why : PlanRefusal)
+      → refusal_number why ≡ value_fault plan.threads plan.places plan.edges last found.next → scanned bytes ≡ refused_at (refusal_number why) at
+  misfit_stops found e why f = go found.next e f
+    where
+      real : refusal_number why ≡ 0 → ⊥
+      real = (refusal_named why).1
 
-        go : (q : PlanRecord) → next_in bytes at ≡ NextRecord.Whole q behind
-            → refusal_number why ≡ value_fault plan.threads plan.places plan.edges last q → scanned bytes ≡ refused_at (refusal_number why) at
-        go (PlanRecord.Site s t) p g = record_stops (Record.site s.0 t) behind p (refusal_number why) real g
-        go (PlanRecord.Node n s l) p g = record_stops (Record.node n.0 s.0 l.0) behind p (refusal_number why) real g
-        go (PlanRecord.Edge c d) p g = record_stops (Record.edge c.0 d.0) behind p (refusal_number why) real g
-        go PlanRecord.End p g = absurd (real (g ∙ end_passes plan.threads plan.places plan.edges last))
+      go : (q : PlanRecord) → next_in bytes at ≡ Whole q found.behind
+          → refusal_number why ≡ value_fault plan.threads plan.places plan.edges last q → scanned bytes ≡ refused_at (refusal_number why) at
+      go (PlanRecord.Site s t) p g = record_stops (Record.site s.0 t) found.behind p (refusal_number why) real g
+      go (PlanRecord.Node n s l) p g = record_stops (Record.node n.0 s.0 l.0) found.behind p (refusal_number why) real g
+      go (PlanRecord.Edge c d) p g = record_stops (Record.edge c.0 d.0) found.behind p (refusal_number why) real g
+      go PlanRecord.End p g = absurd (real (g ∙ end_passes plan.threads plan.places plan.edges last))
 
-    -- a record that has passed goes into the plan
-    pub stepped : (r : Record) → nx ≡ of_record r → 0 ≡ value_fault plan.threads plan.places plan.edges last nx
-        → (at < behind) × Way bytes (stored plan r) (of_record r) behind
-    stepped r is f =
-        let found : next_in bytes at ≡ NextRecord.Whole (of_record r) behind = e ∙ ap (λ (q : PlanRecord). NextRecord.Whole q behind) is in
-        let none : 0 ≡ value_fault plan.threads plan.places plan.edges last (of_record r)
-        = f ∙ ap (value_fault plan.threads plan.places plan.edges last) is in
-        (further r behind found, onward r behind found none)
+  pub stopped : (why : PlanRefusal) → Turn bytes at plan last (Err why) → scanned bytes ≡ refused_at (refusal_number why) at
+  stopped why (inl e) = unread_stops why e
+  stopped why (inr w) = misfit_stops w.0 w.1 why w.2
+
+  -- a record that passes goes into the plan, but for the end record
+  pub stepped : (found : Found) → (found.next ≡ PlanRecord.End → ⊥) → Turn bytes at plan last (Ok found)
+      → (at < found.behind) × Way bytes (stored_in plan found.next) found.next found.behind
+  stepped found more w = go found.next more w.0 w.1
+    where
+      on : (r : Record) → next_in bytes at ≡ Whole (of_record r) found.behind → 0 ≡ value_fault plan.threads plan.places plan.edges last (of_record r)
+          → (at < found.behind) × Way bytes (stored_in plan (of_record r)) (of_record r) found.behind
+      on r e f =
+          let fits = storable plan.threads plan.places plan.edges last (of_record r) (sym f) in
+          let next : Way bytes (stored plan r) (of_record r) found.behind = onward r found.behind e f in
+          (further r found.behind e, subst (λ (p : Plan). Way bytes p (of_record r) found.behind) (sym (stored_same plan r fits)) next)
+
+      go : (q : PlanRecord) → (q ≡ PlanRecord.End → ⊥) → next_in bytes at ≡ Whole q found.behind
+          → 0 ≡ value_fault plan.threads plan.places plan.edges last q → (at < found.behind) × Way bytes (stored_in plan q) q found.behind
+      go (PlanRecord.Site s t) m e f = on (Record.site s.0 t) e f
+      go (PlanRecord.Node n s l) m e f = on (Record.node n.0 s.0 l.0) e f
+      go (PlanRecord.Edge c d) m e f = on (Record.edge c.0 d.0) e f
+      go PlanRecord.End m e f = absurd (m refl)

@@ -4,6 +4,7 @@ use Prim.Native.Nat.{ℕ, suc, ◌<◌}
 use native.Mathlib.Omega.{arith}
 use borrow.Author.Tests.{ltb-true, lt-ltb}
 use mathlib.Core.Path.{◌≡◌, refl, sym, ap, ap₂, ◌∙◌}
+use Rattle.std.specs.Prelude.{Option, Some, None, Result, Ok, Err}
 use mathlib.Core.Bool.{Bool, true, false, not, ◌&&◌, cond}
 use mathlib.Core.List.{List, [], ◌∷◌}
 use lib.Dec.{ltb, leb, eqb}
@@ -17,8 +18,7 @@ use Rattle.model.specs.declared.PlanRecord.{PlanRecord}
 use Rattle.model.proofs.PlanValueLaws.{edges-value, threads-value, present-value}
 use Rattle.model.proofs.RefusalLaws.{refusal_named, refusal_injective}
 use Rattle.record.specs.Step.{body_told, of_record, last_of, follows_last, listed_node, kind_fault, value_fault, stored_in, told_check}
-use Rattle.record.specs.declared.BodyLength.{BodyLength}
-use Rattle.record.specs.declared.Checked.{Checked}
+use Rattle.model.specs.declared.PlanRefusal.{PlanRefusal}
 
 follows_same : (rs : List Record) (r : Record) → follows_last (last_of rs) (of_record r) ≡ follows rs r
 unfolding follows
@@ -83,15 +83,15 @@ stored_same p (node n s l) h = rw (lt-ltb n nodes h)
 stored_same p (edge c d) h = rw (lt-ltb p.edges most_edges h)
 
 -- the number of a check's answer determines it
-pub check_injective : (a b : Checked) → told_check a ≡ told_check b → a ≡ b
-check_injective Checked.Passed Checked.Passed e = refl
-check_injective Checked.Passed (Checked.Refused w) e = absurd ((refusal_named w).1 (sym e))
-check_injective (Checked.Refused w) Checked.Passed e = absurd ((refusal_named w).1 e)
-check_injective (Checked.Refused w) (Checked.Refused x) e = ap Checked.Refused (refusal_injective w x e)
+pub check_injective : (a b : Result (Unit {0}) PlanRefusal) → told_check a ≡ told_check b → a ≡ b
+check_injective (Ok u) (Ok v) e = refl
+check_injective (Ok u) (Err w) e = absurd ((refusal_named w).1 (sym e))
+check_injective (Err w) (Ok u) e = absurd ((refusal_named w).1 e)
+check_injective (Err w) (Err x) e = ap Err (refusal_injective w x e)
 
 -- and so does the length of a body
-pub body_injective : (a b : BodyLength) → body_told a ≡ body_told b → a ≡ b
-body_injective (BodyLength.Bytes n) (BodyLength.Bytes m) e = let same : n ≡ m = cc in ap BodyLength.Bytes same
-body_injective (BodyLength.Bytes n) BodyLength.Unknown e = let z : ◌≡◌ {A = ℕ} 0 1 = cc in absurd (omega arith)
-body_injective BodyLength.Unknown (BodyLength.Bytes m) e = let z : ◌≡◌ {A = ℕ} 0 1 = cc in absurd (omega arith)
-body_injective BodyLength.Unknown BodyLength.Unknown e = refl
+pub body_injective : (a b : Option ℕ) → body_told a ≡ body_told b → a ≡ b
+body_injective (Some n) (Some m) e = let same : n ≡ m = cc in ap Some same
+body_injective (Some n) None e = cc
+body_injective None (Some m) e = cc
+body_injective None None e = refl

@@ -1,5 +1,6 @@
 -- One record over the plan's value, for the contracts of `record`. Assumes nothing.
-use Rattle.std.specs.Prelude.{ℕ, suc, ◌+◌, Bool, true, false, not, ◌&&◌, ◌||◌, cond, List, [], ◌∷◌, length, get_or, drop, ltb, leb, eqb}
+use Rattle.std.specs.Prelude.{ℕ, suc, ◌+◌, Bool, true, false, not, ◌&&◌, ◌||◌, cond, List, [], ◌∷◌, length, get_or, drop, ltb, leb, eqb, Some, None, Result, Ok, Err}
+use Rattle.std.specs.Prelude as std
 use Rattle.std.proofs.Math.Option.{Option, none, some}
 use Rattle.ids.specs.Limits.{sites, most_threads, nodes, most_edges}
 use Rattle.model.specs.House.{Next, lacking, unknown, cut, whole, next}
@@ -7,14 +8,13 @@ use Rattle.model.specs.Plan.{Record, plan_kinds, first_fault, site, node, edge}
 use Rattle.model.specs.PlanValue.{refusal_number, nowhere, somewhere, stored}
 use Rattle.model.specs.declared.Plan.{Plan}
 use Rattle.model.specs.declared.PlanRecord.{PlanRecord}
-use Rattle.record.specs.declared.BodyLength.{BodyLength}
-use Rattle.record.specs.declared.NextRecord.{NextRecord}
-use Rattle.record.specs.declared.Checked.{Checked}
+use Rattle.model.specs.declared.PlanRefusal.{PlanRefusal}
+use Rattle.record.specs.declared.Found.{Found}
 
 -- the length that the table of kinds has
-abbrev pub body_told : BodyLength → Option ℕ
-body_told (BodyLength.Bytes n) = some n
-body_told BodyLength.Unknown = none
+abbrev pub body_told : std.Option ℕ → Option ℕ
+body_told (Some n) = some n
+body_told None = none
 
 -- a record's kind and body
 abbrev pub record_of : ℕ → List ℕ → PlanRecord
@@ -23,14 +23,15 @@ record_of kind body =
     (cond (eqb kind 2) (PlanRecord.Node (record { 0 = get_or body 0 0 }) (record { 0 = get_or body 1 0 }) (record { 0 = get_or body 2 0 }))
     (cond (eqb kind 3) (PlanRecord.Edge (record { 0 = get_or body 0 0 }) (record { 0 = get_or body 1 0 })) PlanRecord.End))
 
-abbrev pub from_next : Next → ℕ → NextRecord
-from_next lacking at = NextRecord.Cut
-from_next unknown at = NextRecord.Unknown
-from_next cut at = NextRecord.Cut
-from_next (whole kind body rest) at = NextRecord.Whole (record_of kind body) (at + suc (length body))
+-- what stands there, a record with the offset behind it, or the refusal: 1 where a kind byte or a body byte is due, 2 where the kind is unknown
+abbrev pub from_next : Next → ℕ → Result Found PlanRefusal
+from_next lacking at = Err PlanRefusal.InputEnds
+from_next unknown at = Err PlanRefusal.UnknownKind
+from_next cut at = Err PlanRefusal.InputEnds
+from_next (whole kind body rest) at = Ok (record { next = record_of kind body; behind = at + suc (length body) })
 
 -- what stands at an offset
-abbrev pub next_in : List ℕ → ℕ → NextRecord
+abbrev pub next_in : List ℕ → ℕ → Result Found PlanRefusal
 next_in bytes at = from_next (next plan_kinds (drop at bytes)) at
 
 -- a record of the plan as a record of the file
@@ -64,9 +65,9 @@ follows_last (PlanRecord.Edge a b) (PlanRecord.Edge c d) = pair_rises a.0 b.0 c.
 follows_last (PlanRecord.Edge a b) PlanRecord.End = true
 
 -- the number of a check's answer, 0 where all pass
-abbrev pub told_check : Checked → ℕ
-told_check Checked.Passed = 0
-told_check (Checked.Refused why) = refusal_number why
+abbrev pub told_check : Result (Unit {0}) PlanRefusal → ℕ
+told_check (Ok passed) = 0
+told_check (Err why) = refusal_number why
 
 -- what the value's arrays say of the records before
 abbrev pub listed_site : List ℕ → ℕ → Bool

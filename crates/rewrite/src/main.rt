@@ -3,8 +3,6 @@
 #![tactic(auto)]
 
 use ids::{Node, Site};
-use model::ReadAnswer;
-use writing::WriteAnswer;
 
 // The records of the largest plan, and behind them the longest record: so that whatever stands there is seen whole.
 const MOST_BYTES: usize = 3 * Site::COUNT + 4 * Node::COUNT + 3 * Node::EDGES + 4;
@@ -13,16 +11,14 @@ fn main(rt: HostRuntime) {
     let mut input = [0u8; MOST_BYTES];
     let got = streams::read_full(&mut rt.stdin(), &mut input);
     let read = plan::read(&input[..got]);
-    let answer = read.answer;
-    if let ReadAnswer::Refused(_, _) = answer {
+    if read.answer.is_err() {
         let mut line = [0u8; shown::LINE];
         let end = shown::first_line(&mut line, 0, read);
         let _ = rt.stderr().write_all(&line[..end]);
         return;
     }
     let mut file = [0u8; MOST_BYTES];
-    let wrote = writing::write(read.plan, &mut file);
-    if let WriteAnswer::Written(length) = wrote {
+    if let Ok(length) = writing::write(read.plan, &mut file) {
         let _ = rt.write_all(&file[..length]);
     }
 }

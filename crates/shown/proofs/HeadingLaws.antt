@@ -3,6 +3,7 @@
 use Prim.Native.Nat.{ℕ, ◌≤◌}
 use native.Mathlib.Omega.{arith}
 use mathlib.Core.Path.{◌≡◌, refl, sym, ap, ap₂, ◌∙◌}
+use Rattle.std.specs.Prelude.{Result, Ok, Err}
 use mathlib.Core.List.{List, [], ◌∷◌, ◌++◌, append-nil}
 use lib.ListN.{length, length-append}
 use Rattle.model.specs.Plan.{Record, sites_of, listed, edges, six, end_fault}
@@ -12,8 +13,7 @@ use Rattle.model.specs.Records.{RecordsOk}
 use Rattle.model.specs.Text.{Text, plan_line, plan_refused_line}
 use Rattle.model.specs.Transcript.{transcript, behind_plan}
 use Rattle.model.specs.declared.PlanRead.{PlanRead}
-use Rattle.model.specs.declared.PlanRefusal.{PlanRefusal}
-use Rattle.model.specs.declared.ReadAnswer.{ReadAnswer}
+use Rattle.model.specs.declared.ReadFault.{ReadFault}
 use Rattle.model.proofs.PlanValueLaws.{records_value, edges-value}
 use Rattle.model.proofs.ReadingLaws.{read-accepts, read_refuses}
 use Rattle.model.proofs.RecordLaws.{passes_ok}
@@ -26,17 +26,17 @@ use Rattle.shown.specs.Heading.{heading, site_count, node_count, answer_line, fi
 -- The line that is made
 
 module _ (r : PlanRead) where
-  pub accepted_line : (used sites nodes : ℕ) → r.answer ≡ ReadAnswer.Accepted used → sites ≡ site_count r.plan → nodes ≡ node_count r.plan
+  pub accepted_line : (used sites nodes : ℕ) → r.answer ≡ Ok used → sites ≡ site_count r.plan → nodes ≡ node_count r.plan
       → plan_line sites nodes r.plan.edges used ≡ first_text r
   unfolding first_text
   accepted_line used sites nodes is s n =
-      ap₂ (λ (x y : ℕ). plan_line x y r.plan.edges used) s n ∙ sym (ap (λ (a : ReadAnswer). answer_line a r.plan) is)
+      ap₂ (λ (x y : ℕ). plan_line x y r.plan.edges used) s n ∙ sym (ap (λ (a : Result ℕ ReadFault). answer_line a r.plan) is)
 
-  pub refused_line : (why : PlanRefusal) (number offset : ℕ) → r.answer ≡ ReadAnswer.Refused why offset → number ≡ refusal_number why
-      → plan_refused_line number offset ≡ first_text r
+  pub refused_line : (fault : ReadFault) (number : ℕ) → r.answer ≡ Err fault → number ≡ refusal_number fault.why
+      → plan_refused_line number fault.offset ≡ first_text r
   unfolding first_text
-  refused_line why number offset is n =
-      ap (λ (x : ℕ). plan_refused_line x offset) n ∙ sym (ap (λ (a : ReadAnswer). answer_line a r.plan) is)
+  refused_line fault number is n =
+      ap (λ (x : ℕ). plan_refused_line x fault.offset) n ∙ sym (ap (λ (a : Result ℕ ReadFault). answer_line a r.plan) is)
 
 -- It is the model's
 
@@ -50,7 +50,7 @@ module _ (rs : List Record) (ok : RecordsOk rs) where
   unfolding node_count
   nodes-value = ap (λ (qs : List Record). length (listed qs)) (records_value rs ok)
 
-  value_line : (used : ℕ) → answer_line (ReadAnswer.Accepted used) (value rs) ≡ heading (accepted rs used)
+  value_line : (used : ℕ) → answer_line (Ok used) (value rs) ≡ heading (accepted rs used)
   value_line used =
       ap₂ (λ (x y : ℕ). plan_line x y (value rs).edges used) sites-value nodes-value
       ∙ ap (λ (x : ℕ). plan_line (length (sites_of rs)) (length (listed rs)) x used) (edges-value rs)
@@ -69,24 +69,24 @@ module _ (bytes : List ℕ) where
   unfolding first_text
   heading-told r told = go (read bytes) r.answer refl refl told
     where
-      go : (x : Reading) (a : ReadAnswer) → read bytes ≡ x → r.answer ≡ a → ReadTold r x → answer_line r.answer r.plan ≡ heading (read bytes)
-      go (accepted rs used) (ReadAnswer.Accepted u) e is w =
+      go : (x : Reading) (a : Result ℕ ReadFault) → read bytes ≡ x → r.answer ≡ a → ReadTold r x → answer_line r.answer r.plan ≡ heading (read bytes)
+      go (accepted rs used) (Ok u) e is w =
           let said : 0 ∷ u ∷ [] ≡ 0 ∷ used ∷ [] = sym (ap told_read is) ∙ w.answer_is in
           let same : u ≡ used = cc in
-          ap₂ answer_line (is ∙ ap ReadAnswer.Accepted same) w.plan_is ∙ value_line rs (read_right rs used e) used ∙ sym (ap heading e)
-      go (accepted rs used) (ReadAnswer.Refused why o) e is w =
-          let said : refusal_number why ∷ o ∷ [] ≡ 0 ∷ used ∷ [] = sym (ap told_read is) ∙ w.answer_is in
-          let none : refusal_number why ≡ 0 = cc in
-          absurd ((refusal_named why).1 none)
-      go (refused_at number offset) (ReadAnswer.Accepted u) e is w =
+          ap₂ answer_line (is ∙ ap Ok same) w.plan_is ∙ value_line rs (read_right rs used e) used ∙ sym (ap heading e)
+      go (accepted rs used) (Err fault) e is w =
+          let said : refusal_number fault.why ∷ fault.offset ∷ [] ≡ 0 ∷ used ∷ [] = sym (ap told_read is) ∙ w.answer_is in
+          let none : refusal_number fault.why ≡ 0 = cc in
+          absurd ((refusal_named fault.why).1 none)
+      go (refused_at number offset) (Ok u) e is w =
           let said : 0 ∷ u ∷ [] ≡ number ∷ offset ∷ [] = sym (ap told_read is) ∙ w.answer_is in
           let none : number ≡ 0 = cc in
           absurd (read_real number offset e none)
-      go (refused_at number offset) (ReadAnswer.Refused why o) e is w =
-          let said : refusal_number why ∷ o ∷ [] ≡ number ∷ offset ∷ [] = sym (ap told_read is) ∙ w.answer_is in
-          let same : refusal_number why ≡ number = cc in
-          let there : o ≡ offset = cc in
-          ap (λ (x : ReadAnswer). answer_line x r.plan) is ∙ ap₂ plan_refused_line same there ∙ sym (ap heading e)
+      go (refused_at number offset) (Err fault) e is w =
+          let said : refusal_number fault.why ∷ fault.offset ∷ [] ≡ number ∷ offset ∷ [] = sym (ap told_read is) ∙ w.answer_is in
+          let same : refusal_number fault.why ≡ number = cc in
+          let there : fault.offset ≡ offset = cc in
+          ap (λ (x : Result ℕ ReadFault). answer_line x r.plan) is ∙ ap₂ plan_refused_line same there ∙ sym (ap heading e)
 
   -- and begins the transcript of the bench program
   pub heading-first : (rest : Text) × (transcript bytes ≡ heading (read bytes) ++ rest)
@@ -116,6 +116,6 @@ pub first_text_most : (r : PlanRead) → length (first_text r) ≤ plan_room
 unfolding first_text
 first_text_most r = go r.answer
   where
-    go : (a : ReadAnswer) → length (answer_line a r.plan) ≤ plan_room
-    go (ReadAnswer.Accepted used) = accepted_most (site_count r.plan) (node_count r.plan) r.plan.edges used
-    go (ReadAnswer.Refused why offset) = refused_most (refusal_number why) offset
+    go : (a : Result ℕ ReadFault) → length (answer_line a r.plan) ≤ plan_room
+    go (Ok used) = accepted_most (site_count r.plan) (node_count r.plan) r.plan.edges used
+    go (Err fault) = refused_most (refusal_number fault.why) fault.offset

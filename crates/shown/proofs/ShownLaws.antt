@@ -3,6 +3,7 @@
 use Prim.Native.Nat.{ℕ, ◌*◌, ◌<◌, ◌≤◌}
 use native.Mathlib.Omega.{arith}
 use mathlib.Core.Path.{◌≡◌, refl, sym, ap, ap₂, subst, ◌∙◌}
+use Rattle.std.specs.Prelude.{Err}
 use mathlib.Core.List.{List, [], ◌∷◌, ◌++◌, append-nil}
 use lib.ListN.{length, length-append}
 use Rattle.lists.proofs.CountLaws.{get_or_inside}
@@ -14,8 +15,7 @@ use Rattle.model.specs.Reading.{Reading, accepted, refused_at, read, scanned}
 use Rattle.model.specs.Records.{RecordsOk}
 use Rattle.model.specs.declared.Plan.{Plan}
 use Rattle.model.specs.declared.PlanRead.{PlanRead}
-use Rattle.model.specs.declared.PlanRefusal.{PlanRefusal}
-use Rattle.model.specs.declared.ReadAnswer.{ReadAnswer}
+use Rattle.model.specs.declared.ReadFault.{ReadFault}
 use Rattle.model.proofs.PlanValueLaws.{value_sized, records_value, present-value}
 use Rattle.model.proofs.RefusalLaws.{refusal_named}
 use Rattle.printable.specs.Tables.{TableTells}
@@ -61,19 +61,19 @@ module _ (bytes : List ℕ) where
 
   -- it was not
   pub shown_early : (r : PlanRead) → ReadTold r (read bytes)
-      → (s : PlanRead) (why : PlanRefusal) (offset : ℕ) → s.answer ≡ ReadAnswer.Refused why offset → ReadTold s (scanned bytes)
+      → (s : PlanRead) (fault : ReadFault) → s.answer ≡ Err fault → ReadTold s (scanned bytes)
       → first_text r ≡ shown_text bytes
   unfolding shown_text
-  shown_early r told s why offset is stopped =
+  shown_early r told s fault is stopped =
       heading-told bytes r told
       ∙ sym (append-nil (heading (read bytes)))
       ∙ ap (λ (t : List ℕ). heading (read bytes) ++ t) (sym (none-behind (scanned bytes) stopped))
     where
       none-behind : (x : Reading) → ReadTold s x → behind_end x ≡ []
       none-behind (accepted rs used) w =
-          let said : refusal_number why ∷ offset ∷ [] ≡ 0 ∷ used ∷ [] = sym (ap told_read is) ∙ w.answer_is in
-          let none : refusal_number why ≡ 0 = cc in
-          absurd ((refusal_named why).1 none)
+          let said : refusal_number fault.why ∷ fault.offset ∷ [] ≡ 0 ∷ used ∷ [] = sym (ap told_read is) ∙ w.answer_is in
+          let none : refusal_number fault.why ≡ 0 = cc in
+          absurd ((refusal_named fault.why).1 none)
       none-behind (refused_at number at) w = refl
 
 -- The room that it takes

@@ -12,8 +12,10 @@ ghost use Rattle.shown.specs.Lines.{item as item-text, items, node_text, node_te
 ghost use Rattle.shown.specs.Room.{line_most, shown_room, ItemRoom, RowRoom, LineRoom};
 
 use ids::{Node, Site};
-use model::{Plan, PlanRead, ReadAnswer};
+use model::{Plan, PlanRead};
 use printable::Table;
+
+// kept: a text and the place in it go side by side and not as a struct, since the functions of `text`, which write all of it, take the two.
 
 // The room that `first_line` asks for, `plan_room`: the longest first line.
 pub const LINE: usize = 89;
@@ -26,30 +28,17 @@ pub const ROOM: usize = LINE + Node::COUNT * (3 * Node::COUNT + 4) + 6;
 pub fn site_count(plan: Plan) -> usize
     ensures { result ≡ site_count plan }
 {
-    let mut count = 0;
-    let mut i = 0;
-    while i < Site::COUNT {
-        if plan.threads[i] != 0 {
-            count += 1;
-        }
-        i += 1;
-    }
-    count
+    plan.threads.iter().filter(|threads| **threads != 0).count()
 }
 
 // How many nodes a plan has: those that are somewhere.
 pub fn node_count(plan: Plan) -> usize
     ensures { result ≡ node_count plan }
 {
-    let mut count = 0;
-    let mut i = 0;
-    while i < Node::COUNT {
-        if plan.places[i] != Plan::NOWHERE {
-            count += 1;
-        }
-        i += 1;
-    }
-    count
+    plan.places
+        .iter()
+        .filter(|place| **place != Plan::NOWHERE)
+        .count()
 }
 
 // The first line.
@@ -58,21 +47,16 @@ pub fn first_line(text: &mut [u8], at: usize, read: PlanRead) -> usize
     ensures { Put text.old at (first_text read) text.new result }
 {
     let plan = read.plan;
-    let answer = read.answer;
-    match answer {
-        ReadAnswer::Accepted(used) => {
-            text::plan_line(
-                text,
-                at,
-                site_count(plan),
-                node_count(plan),
-                plan.edges,
-                used,
-            )
-        }
-        ReadAnswer::Refused(why, offset) => {
-            text::plan_refused_line(text, at, plan::refusal_number(why), offset)
-        }
+    match read.answer {
+        Ok(used) => text::plan_line(
+            text,
+            at,
+            site_count(plan),
+            node_count(plan),
+            plan.edges,
+            used,
+        ),
+        Err(fault) => text::plan_refused_line(text, at, u8::from(fault.why), fault.offset),
     }
 }
 
@@ -93,10 +77,8 @@ fn row(text: &mut [u8], start: usize, table: Table, n: usize) -> usize
     ensures { Put text.old start (items (told_on table.cells n) nodes) text.new result }
 {
     let mut at = start;
-    let mut m = 0;
-    while m < Node::COUNT {
+    for m in 0..Node::COUNT {
         at = item(text, at, m, table.cells[Node::COUNT * n + m] == 1);
-        m += 1;
     }
     at
 }
@@ -122,10 +104,8 @@ fn node_lines(text: &mut [u8], start: usize, plan: Plan, table: Table) -> usize
     ensures { Put text.old start (node_texts (is_listed plan.places) (told_on table.cells) nodes) text.new result }
 {
     let mut at = start;
-    let mut n = 0;
-    while n < Node::COUNT {
+    for n in 0..Node::COUNT {
         at = node_line(text, at, plan.places[n], table, n);
-        n += 1;
     }
     at
 }
@@ -138,11 +118,9 @@ pub fn show(text: &mut [u8], bytes: &[u8]) -> usize
 {
     let at = first_line(text, 0, plan::read(bytes));
     let scanned = plan::scan(bytes);
-    let answer = scanned.answer;
-    let ReadAnswer::Accepted(_) = answer else {
+    let Ok(_) = scanned.answer else {
         return at;
     };
-    let plan = scanned.plan;
-    let table = printable::dependence(plan);
-    node_lines(text, at, plan, table)
+    let table = printable::dependence(scanned.plan);
+    node_lines(text, at, scanned.plan, table)
 }

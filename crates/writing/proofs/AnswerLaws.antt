@@ -4,6 +4,7 @@ use Prim.Native.Nat.{ℕ, ◌≤◌}
 use native.Mathlib.Omega.{arith}
 use mathlib.Core.Path.{◌≡◌, refl, sym, ap, ◌∙◌}
 use mathlib.Core.Bool.{Bool, true, false}
+use Rattle.std.specs.Prelude.{Result, Ok, Err}
 use mathlib.Core.List.{List, [], ◌∷◌}
 use lib.Dec.{eqb}
 use lib.ListN.{length, drop, length-append}
@@ -12,27 +13,25 @@ use Rattle.model.specs.Writing.{plan_file, write_fault, write_answer}
 use Rattle.model.specs.declared.Plan.{Plan}
 use Rattle.model.proofs.WritingLaws.{answer_refused, answer_length, file_in_front}
 use Rattle.writing.specs.Writes.{told_write, Writes}
-use Rattle.writing.specs.declared.WriteAnswer.{WriteAnswer}
+use Rattle.writing.specs.declared.WriteRefusal.{WriteRefusal}
 
-pub write_injective : (x y : WriteAnswer) → told_write x ≡ told_write y → x ≡ y
-write_injective (WriteAnswer.Written n) (WriteAnswer.Written m) e = let q : n ≡ m = cc in ap WriteAnswer.Written q
-write_injective (WriteAnswer.Written n) WriteAnswer.BrokenPlan e = cc
-write_injective (WriteAnswer.Written n) WriteAnswer.ShortBuffer e = cc
-write_injective WriteAnswer.BrokenPlan (WriteAnswer.Written m) e = cc
-write_injective WriteAnswer.BrokenPlan WriteAnswer.BrokenPlan e = refl
-write_injective WriteAnswer.BrokenPlan WriteAnswer.ShortBuffer e = let z : ◌≡◌ {A = ℕ} 18 10 = cc in absurd (omega arith)
-write_injective WriteAnswer.ShortBuffer (WriteAnswer.Written m) e = cc
-write_injective WriteAnswer.ShortBuffer WriteAnswer.BrokenPlan e = let z : ◌≡◌ {A = ℕ} 10 18 = cc in absurd (omega arith)
-write_injective WriteAnswer.ShortBuffer WriteAnswer.ShortBuffer e = refl
+pub write_injective : (x y : Result ℕ WriteRefusal) → told_write x ≡ told_write y → x ≡ y
+write_injective (Ok n) (Ok m) e = let q : n ≡ m = cc in ap Ok q
+write_injective (Ok n) (Err why) e = cc
+write_injective (Err why) (Ok m) e = cc
+write_injective (Err WriteRefusal.BrokenPlan) (Err WriteRefusal.BrokenPlan) e = refl
+write_injective (Err WriteRefusal.BrokenPlan) (Err WriteRefusal.ShortBuffer) e = let z : ◌≡◌ {A = ℕ} 18 10 = cc in absurd (omega arith)
+write_injective (Err WriteRefusal.ShortBuffer) (Err WriteRefusal.BrokenPlan) e = let z : ◌≡◌ {A = ℕ} 10 18 = cc in absurd (omega arith)
+write_injective (Err WriteRefusal.ShortBuffer) (Err WriteRefusal.ShortBuffer) e = refl
 
-pub writes_once : {plan : Plan} {old new also : List ℕ} {r s : WriteAnswer} → Writes plan old r new → Writes plan old s also → (r ≡ s) × (new ≡ also)
+pub writes_once : {plan : Plan} {old new also : List ℕ} {r s : Result ℕ WriteRefusal} → Writes plan old r new → Writes plan old s also → (r ≡ s) × (new ≡ also)
 writes_once {plan} {old} {new} {also} {r} {s} a b = (
   write_injective r s (a.answer_is ∙ sym b.answer_is),
   a.buffer_is ∙ sym b.buffer_is,
 )
 
 -- a length is answered only where there is no refusal, and is the file's
-module _ {plan : Plan} {old new : List ℕ} {r : WriteAnswer} (size : ℕ) (is : r ≡ WriteAnswer.Written size) (w : Writes plan old r new) where
+module _ {plan : Plan} {old new : List ℕ} {r : Result ℕ WriteRefusal} (size : ℕ) (is : r ≡ Ok size) (w : Writes plan old r new) where
   told : 0 ∷ size ∷ [] ≡ write_answer plan (length old)
   told = sym (ap told_write is) ∙ w.answer_is
 

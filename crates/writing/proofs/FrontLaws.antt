@@ -2,6 +2,7 @@
 use Prim.Native.Nat.{ℕ, zero, suc, ◌+◌, ◌<◌, ◌≤◌, min}
 use native.Mathlib.Omega.{arith}
 use mathlib.Core.Path.{◌≡◌, sym, ap, ◌∙◌}
+use Rattle.std.specs.Prelude.{Ok, Err}
 use mathlib.Core.List.{List, [], ◌∷◌, ◌++◌, append-nil, append_assoc}
 use mathlib.Core.Option.{Option}
 use lib.ListN.{length, drop, length-append}
@@ -17,7 +18,7 @@ use Rattle.model.proofs.FileLaws.{records_push}
 use Rattle.model.proofs.WritingLaws.{broken_plan, short_buffer, room_enough, answer_refused, answer_length, refused_nothing, file_in_front}
 use Rattle.text.specs.Put.{Put}
 use Rattle.writing.specs.Writes.{Writes, sites_bytes, nodes_bytes, edges_bytes}
-use Rattle.writing.specs.declared.WriteAnswer.{WriteAnswer}
+use Rattle.writing.specs.declared.WriteRefusal.{WriteRefusal}
 
 -- records behind others add their own bytes
 each_apart : (f : ℕ → Option Record) (rs : List Record) (k : ℕ) → records_bytes (each f k rs) ≡ records_bytes rs ++ records_bytes (each f k [])
@@ -47,7 +48,7 @@ module _ (p : Plan) (few : p.edges ≤ most_edges) where
       omega (arith, ap length file_parts, length-append s n, length-append (s ++ n) e, length-append (s ++ n ++ e) (4 ∷ []))
 
 module _ (p : Plan) (old : List ℕ) where
-  pub broken-answers : (plan_fault p ≡ 0 → ⊥) → Writes p old WriteAnswer.BrokenPlan old
+  pub broken-answers : (plan_fault p ≡ 0 → ⊥) → Writes p old (Err WriteRefusal.BrokenPlan) old
   broken-answers bad =
       let is = broken_plan p (length old) bad in
       record {
@@ -56,7 +57,7 @@ module _ (p : Plan) (old : List ℕ) where
       }
 
   module _ (sound : plan_fault p ≡ 0) where
-    pub short_answers : length old < length (plan_file p) → Writes p old WriteAnswer.ShortBuffer old
+    pub short_answers : length old < length (plan_file p) → Writes p old (Err WriteRefusal.ShortBuffer) old
     short_answers less =
         let is = short_buffer p (length old) sound less in
         record {
@@ -65,7 +66,7 @@ module _ (p : Plan) (old : List ℕ) where
         }
 
     pub file_answers : {new : List ℕ} {to : ℕ} → length (plan_file p) ≤ length old → Put old 0 (plan_file p) new to
-        → Writes p old (WriteAnswer.Written to) new
+        → Writes p old (Ok to) new
     file_answers {new} {to} room put =
         let is = room_enough p (length old) sound room in
         let behind : 0 + length (plan_file p) ≡ length (plan_file p) = omega arith in

@@ -1,6 +1,11 @@
 -- A plan has no fault exactly when its arrays pass and the checks of the end record find nothing. Assumes nothing.
 use Prim.Native.Nat.{ℕ}
-use mathlib.Core.Path.{◌≡◌, sym, ◌∙◌}
+use mathlib.Core.Path.{◌≡◌, refl, sym, ◌∙◌}
+use Rattle.std.specs.Prelude.{Result, Ok, Err}
+use Rattle.std.specs.Result.{is_ok}
+use Rattle.model.specs.declared.PlanRefusal.{PlanRefusal}
+use Rattle.model.proofs.RefusalLaws.{refusal_named}
+use Rattle.record.specs.Step.{told_check}
 use mathlib.Core.Logic.{◌↔◌}
 use mathlib.Core.Bool.{true, false}
 use lib.Dec.{eqb, leb}
@@ -37,8 +42,12 @@ module _ (p : Plan) where
     unfolding records_pass
     end_is = whole_is p (passes_ok six (records_of p) (and_right (leb p.edges most_edges) (passes six (records_of p)) good)) found
 
-    pub end_passes : n ≡ 0 → true ≡ eqb (plan_fault p) 0
+    end_passes : n ≡ 0 → true ≡ eqb (plan_fault p) 0
     end_passes none = sym (eq-eqb (plan_fault p) 0 (no_fault.1 (good, sym end_is ∙ none)))
 
-    pub end_refuses : (n ≡ 0 → ⊥) → false ≡ eqb (plan_fault p) 0
+    end_refuses : (n ≡ 0 → ⊥) → false ≡ eqb (plan_fault p) 0
     end_refuses some = sym (ne_eqb (plan_fault p) 0 (λ e. some (end_is ∙ (no_fault.0 e).1)))
+
+  pub end_decides : records_pass p ≡ true → (r : Result (Unit {0}) PlanRefusal) → WholeFault p (told_check r) → is_ok r ≡ eqb (plan_fault p) 0
+  end_decides good (Ok passed) found = end_passes good found refl
+  end_decides good (Err why) found = end_refuses good found (refusal_named why).1

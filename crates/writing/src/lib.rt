@@ -4,24 +4,33 @@
 
 ghost use Rattle.std.specs.Prelude.{◌+◌, ◌≤◌, ◌≡◌, eqb, length};
 ghost use Rattle.ids.specs.Limits.{sites, nodes, most_edges};
-ghost use Rattle.model.specs.Plan.{edge, bytes_of};
 ghost use Rattle.model.specs.PlanFault.{plan_fault};
-ghost use Rattle.model.specs.Writing.{plan_file, added};
+ghost use Rattle.model.specs.Writing.{plan_file};
 ghost use Rattle.text.specs.Put.{Put};
-ghost use Rattle.writing.specs.Writes.{Writes, site_record, node_record, sites_bytes, nodes_bytes, edges_bytes};
+ghost use Rattle.writing.specs.Writes.{Writes, write_refusal, record_bytes, sites_bytes, nodes_bytes, edges_bytes};
+ghost use Rattle.writing.specs.declared.WriteRefusal.{WriteRefusal};
 
-use ids::{Node, Site};
-use model::Plan;
-use record::Checked;
+use ids::{Level, Node, Site};
+use model::{Plan, PlanRecord};
 
-// The length of the file, or why nothing was written.
-#[derive(Clone, Copy)]
-pub enum WriteAnswer {
-    Written(usize),
-    // 18: no net is made from this plan either.
+// Why nothing was written.
+#[derive(Clone, Copy, PartialEq, Eq)]
+pub enum WriteRefusal {
+    // No net is made from this plan either.
     BrokenPlan,
-    // 10: the buffer is shorter than the file.
+    // The buffer is shorter than the file.
     ShortBuffer,
+}
+
+impl From<WriteRefusal> for u8 {
+    ghost from_gives = { λ why number. number ≡ write_refusal why };
+
+    fn from(why: WriteRefusal) -> u8 {
+        match why {
+            WriteRefusal::BrokenPlan => 18,
+            WriteRefusal::ShortBuffer => 10,
+        }
+    }
 }
 
 // The kinds of records.
@@ -41,11 +50,7 @@ fn sound(plan: Plan) -> bool
     if !audit::passes(plan) {
         return false;
     }
-    let ended = record::check_end(plan);
-    match ended {
-        Checked::Passed => true,
-        Checked::Refused(_) => false,
-    }
+    record::check_end(plan).is_ok()
 }
 
 // The length of a plan's file: 3 bytes for each site and edge, 4 for each node, and the end record.
@@ -58,44 +63,27 @@ fn file_length(plan: Plan) -> usize
     3 * sites + 4 * nodes + 3 * plan.edges + 1
 }
 
-// A site's record, where it has one.
-fn put_site(buffer: &mut [u8], at: usize, site: u8, threads: u8) -> usize
-    requires { at + length (added (site_record site threads)) ≤ length buffer.old }
-    ensures { Put buffer.old at (added (site_record site threads)) buffer.new result }
+// Some bytes, and the place behind them.
+fn put<'a>(buffer: &'a mut [u8], at: usize, bytes: &'a [u8]) -> usize
+    requires { at + length bytes.now ≤ length buffer.old }
+    ensures { Put buffer.old at bytes.now buffer.new result }
 {
-    if threads == 0 {
-        return at;
-    }
-    buffer[at] = SITE;
-    buffer[at + 1] = site;
-    buffer[at + 2] = threads;
-    at + 3
+    let end = at + bytes.len();
+    buffer[at..end].copy_from_slice(bytes);
+    end
 }
 
-// A node's record, where it has one.
-fn put_node(buffer: &mut [u8], at: usize, node: u8, place: u8, level: u8) -> usize
-    requires { at + length (added (node_record node place level)) ≤ length buffer.old }
-    ensures { Put buffer.old at (added (node_record node place level)) buffer.new result }
+// A record's bytes.
+fn put_record(buffer: &mut [u8], at: usize, next: PlanRecord) -> usize
+    requires { at + length (record_bytes next) ≤ length buffer.old }
+    ensures { Put buffer.old at (record_bytes next) buffer.new result }
 {
-    if place == Plan::NOWHERE {
-        return at;
+    match next {
+        PlanRecord::Site(site, threads) => put(buffer, at, &[SITE, site.0, threads]),
+        PlanRecord::Node(node, site, level) => put(buffer, at, &[NODE, node.0, site.0, level.0]),
+        PlanRecord::Edge(caller, callee) => put(buffer, at, &[EDGE, caller.0, callee.0]),
+        PlanRecord::End => put(buffer, at, &[END]),
     }
-    buffer[at] = NODE;
-    buffer[at + 1] = node;
-    buffer[at + 2] = place;
-    buffer[at + 3] = level;
-    at + 4
-}
-
-// An edge's record.
-fn put_edge(buffer: &mut [u8], at: usize, caller: u8, callee: u8) -> usize
-    requires { at + length (bytes_of (edge caller callee)) ≤ length buffer.old }
-    ensures { Put buffer.old at (bytes_of (edge caller callee)) buffer.new result }
-{
-    buffer[at] = EDGE;
-    buffer[at + 1] = caller;
-    buffer[at + 2] = callee;
-    at + 3
 }
 
 // The site records.
@@ -104,10 +92,11 @@ fn put_sites(buffer: &mut [u8], plan: Plan) -> usize
     ensures { Put buffer.old 0 (sites_bytes plan sites) buffer.new result }
 {
     let mut at = 0;
-    let mut s = 0;
-    while s < Site::COUNT {
-        at = put_site(buffer, at, s as u8, plan.threads[s]);
-        s += 1;
+    for s in 0..Site::COUNT {
+        let threads = plan.threads[s];
+        if threads != 0 {
+            at = put_record(buffer, at, PlanRecord::Site(Site(s as u8), threads));
+        }
     }
     at
 }
@@ -118,10 +107,16 @@ fn put_nodes(buffer: &mut [u8], start: usize, plan: Plan) -> usize
     ensures { Put buffer.old start (nodes_bytes plan nodes) buffer.new result }
 {
     let mut at = start;
-    let mut n = 0;
-    while n < Node::COUNT {
-        at = put_node(buffer, at, n as u8, plan.places[n], plan.levels[n]);
-        n += 1;
+    for n in 0..Node::COUNT {
+        let place = plan.places[n];
+        if place != Plan::NOWHERE {
+            let level = Level(plan.levels[n]);
+            at = put_record(
+                buffer,
+                at,
+                PlanRecord::Node(Node(n as u8), Site(place), level),
+            );
+        }
     }
     at
 }
@@ -132,10 +127,12 @@ fn put_edges(buffer: &mut [u8], start: usize, plan: Plan) -> usize
     ensures { Put buffer.old start (edges_bytes plan plan.edges) buffer.new result }
 {
     let mut at = start;
-    let mut i = 0;
-    while i < plan.edges {
-        at = put_edge(buffer, at, plan.callers[i], plan.callees[i]);
-        i += 1;
+    for i in 0..plan.edges {
+        at = put_record(
+            buffer,
+            at,
+            PlanRecord::Edge(Node(plan.callers[i]), Node(plan.callees[i])),
+        );
     }
     at
 }
@@ -148,19 +145,18 @@ fn put_file(buffer: &mut [u8], plan: Plan) -> usize
     let sites = put_sites(buffer, plan);
     let nodes = put_nodes(buffer, sites, plan);
     let end = put_edges(buffer, nodes, plan);
-    buffer[end] = END;
-    end + 1
+    put_record(buffer, end, PlanRecord::End)
 }
 
 // Writes a plan's file into the front of a buffer and answers its length. What stands behind it stays, and a refusal leaves the whole buffer as it was.
-pub fn write(plan: Plan, buffer: &mut [u8]) -> WriteAnswer
+pub fn write(plan: Plan, buffer: &mut [u8]) -> Result<usize, WriteRefusal>
     ensures { Writes plan buffer.old result buffer.new }
 {
     if !sound(plan) {
-        return WriteAnswer::BrokenPlan;
+        return Err(WriteRefusal::BrokenPlan);
     }
     if buffer.len() < file_length(plan) {
-        return WriteAnswer::ShortBuffer;
+        return Err(WriteRefusal::ShortBuffer);
     }
-    WriteAnswer::Written(put_file(buffer, plan))
+    Ok(put_file(buffer, plan))
 }

@@ -1,27 +1,18 @@
--- `audit::sites_pass` meets its contract. The loop's invariant: the sites below the loop's fit. Assumes nothing.
-use native.Mathlib.Omega.{arith}
-use mathlib.Core.Path.{refl}
-use borrow.Author.Tests.{lt-leb, le-leb}
+-- `audit::sites_pass` meets its contract: the chain is true where each entry below the count fits, and false where one does not. Assumes nothing.
+use Prim.Native.Nat.{ℕ, ◌<◌}
+use mathlib.Core.Path.{◌≡◌}
+use mathlib.Core.Bool.{true, false}
+use Rattle.std.proofs.Common.{rules}
+use Rattle.std.proofs.iter.runs.Sources.{ranges}
 use Rattle.ids.specs.Limits.{sites}
 use Rattle.audit.specs.Fits.{site_fits, sites_fit}
-use Rattle.audit.proofs.FitLaws.{fits_next, one_misfits, all_fit}
+use Rattle.audit.proofs.FitLaws.{every_decides}
 use Rattle.audit.proofs.sites_pass.Goals as goal
 
-pub loop-site-init : goal.loop-site-init
-loop-site-init c = (refl, omega arith)
-
-pub returns-then-threads-site-gt-THREADS : goal.returns-then-threads-site-gt-THREADS
-unfolding sites_fit site_fits
-returns-then-threads-site-gt-THREADS c =
-    one_misfits (site_fits c.args.threads.now) sites c.loop-site.site c.loop-site-test.true (lt-leb _ _ c.if-threads-site-gt-THREADS.true)
-
-pub loop-site-preserved : goal.loop-site-preserved
-unfolding site_fits
-loop-site-preserved c = (
-  fits_next (site_fits c.args.threads.now) c.loop-site.site c.loop-site.invariant.0 (le-leb _ _ c.if-threads-site-gt-THREADS.false),
-  omega (arith, c.loop-site-test.true),
-)
-
 pub returns : goal.returns
-unfolding sites_fit
-returns c = all_fit (site_fits c.args.threads.now) sites c.loop-site.site (omega arith) c.loop-site.invariant.0
+unfolding sites_fit site_fits
+returns c =
+    let p = c.args.plan.now in
+    let all : c.all.result ≡ true → (k : ℕ) → k < sites → site_fits p.threads k ≡ true = search (rules, ranges) in
+    let one : c.all.result ≡ false → (k : ℕ) × (k < sites) × (site_fits p.threads k ≡ false) = search (rules, ranges) in
+    every_decides sites (site_fits p.threads) c.all.result all one

@@ -1,12 +1,8 @@
 -- `audit::take_sites` meets its contract. The loop's invariant: the records of the sites below s are taken up.
 -- Assumes nothing.
-use Prim.Native.Nat.{◌≤◌, ◌-◌}
-use Rattle.ids.specs.Limits.{sites}
+use Rattle.std.specs.Prelude.{Ok}
 use Rattle.audit.specs.Taken.{Taken, sites_to}
 use Rattle.audit.proofs.take_sites.Given as goal
 
 abbrev pub invariant-loop-s : goal.invariant-loop-s
-invariant-loop-s l = Taken (sites_to l.plan l.s) l.audit × (l.s ≤ sites)
-
-abbrev pub decreases-loop-s : goal.decreases-loop-s
-decreases-loop-s l = sites - l.s
+invariant-loop-s l = Taken (sites_to l.plan l.s) (Ok l.audit)

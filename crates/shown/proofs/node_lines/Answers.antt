@@ -12,19 +12,19 @@ use Rattle.shown.proofs.NodeLineLaws.{texts_none, texts_more, texts_most}
 use Rattle.shown.proofs.node_lines.Goals as goal
 
 pub loop-n-init : goal.loop-n-init
-loop-n-init c = (put_as (texts_none _ _) (put_none _ _ (omega (arith, c.requires))), omega arith)
+loop-n-init c = put_as (texts_none _ _) (put_none _ _ (omega (arith, c.requires)))
 
 pub loop-n-preserved : goal.loop-n-preserved
-loop-n-preserved c = (put_as (texts_more _ _ _) (put_then c.loop-n.invariant.0 c.node_line-at.ensures), omega arith)
+loop-n-preserved c = put_as (texts_more _ _ _) (put_then c.loop-n.invariant c.node_line-at.ensures)
 
 pub returns : goal.returns
 returns c = let all : c.loop-n.n ≡ nodes = omega arith in
-    put_as (ap (node_texts (is_listed c.args.plan.places) (told_on c.args.table.cells)) all) c.loop-n.invariant.0
+    put_as (ap (node_texts (is_listed c.args.plan.places) (told_on c.args.table.cells)) all) c.loop-n.invariant
 
 pub node_line-at-requires : goal.node_line-at-requires
 node_line-at-requires c =
     let n = c.loop-n.n in
-    let few = texts_most (is_listed c.args.plan.places) (told_on c.args.table.cells) n c.loop-n.invariant.1 in
+    let few = texts_most (is_listed c.args.plan.places) (told_on c.args.table.cells) n c.loop-n.auto.n-end in
     let left : c.loop-n.at + (line_most + number_room) ≤ length c.loop-n.text
-    = room_left (n * line_most) (line_most + number_room) c.loop-n.invariant.0 few (omega (arith, c.requires, c.loop-n-test.true)) in
+    = room_left (n * line_most) (line_most + number_room) c.loop-n.invariant few (omega (arith, c.requires, c.loop-n-test.true)) in
     record { room = omega (arith, left); node = c.loop-n-test.true }

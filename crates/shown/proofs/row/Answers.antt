@@ -11,20 +11,20 @@ use Rattle.shown.proofs.NodeLineLaws.{items_none, items_more, items_most}
 use Rattle.shown.proofs.row.Goals as goal
 
 pub loop-m-init : goal.loop-m-init
-loop-m-init c = (put_as (items_none _) (put_none _ _ (omega (arith, c.requires.room))), omega arith)
+loop-m-init c = put_as (items_none _) (put_none _ _ (omega (arith, c.requires.room)))
 
 pub item-at-requires : goal.item-at-requires
 item-at-requires c =
     let m = c.loop-m.m in
-    let few = items_most (told_on c.args.table.cells c.args.n) m c.loop-m.invariant.1 in
+    let few = items_most (told_on c.args.table.cells c.args.n) m c.loop-m.auto.m-end in
     record {
-      room = room_left (m * item_most) number_room c.loop-m.invariant.0 few (omega (arith, c.requires.room, c.loop-m.invariant.1));
+      room = room_left (m * item_most) number_room c.loop-m.invariant few (omega (arith, c.requires.room, c.loop-m.auto.m-end));
       node = omega arith;
     }
 
 pub loop-m-preserved : goal.loop-m-preserved
-loop-m-preserved c = (put_as (items_more _ _) (put_then c.loop-m.invariant.0 c.item-at.ensures), omega arith)
+loop-m-preserved c = put_as (items_more _ _) (put_then c.loop-m.invariant c.item-at.ensures)
 
 pub returns : goal.returns
 returns c = let all : c.loop-m.m ≡ nodes = omega arith in
-    put_as (ap (items (told_on c.args.table.cells c.args.n)) all) c.loop-m.invariant.0
+    put_as (ap (items (told_on c.args.table.cells c.args.n)) all) c.loop-m.invariant

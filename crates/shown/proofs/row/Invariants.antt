@@ -1,12 +1,7 @@
 -- `shown::row` meets its contract. The loop's invariant: the nodes below m are put where they are to be named. Assumes nothing.
-use Prim.Native.Nat.{◌-◌, ◌≤◌}
-use Rattle.ids.specs.Limits.{nodes}
 use Rattle.text.specs.Put.{Put}
 use Rattle.shown.specs.Lines.{items, told_on}
 use Rattle.shown.proofs.row.Given as goal
 
 abbrev pub invariant-loop-m : goal.invariant-loop-m
-invariant-loop-m l = Put l.initial.text l.start (items (told_on l.table.cells l.n) l.m) l.text l.at × (l.m ≤ nodes)
-
-abbrev pub decreases-loop-m : goal.decreases-loop-m
-decreases-loop-m l = nodes - l.m
+invariant-loop-m l = Put l.initial.text l.start (items (told_on l.table.cells l.n) l.m) l.text l.at

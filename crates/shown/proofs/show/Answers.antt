@@ -14,7 +14,7 @@ use Rattle.shown.proofs.show.Goals as goal
 
 pub returns-in_default : goal.returns-in_default
 returns-in_default c = put_as
-    (shown_early c.args.bytes.now c.read.result c.read.ensures c.scan-scanned.result _ _ c.in_default.is c.scan-scanned.ensures)
+    (shown_early c.args.bytes.now c.read.result c.read.ensures c.scan-scanned.result _ c.in_default.is c.scan-scanned.ensures)
     c.first_line-at.ensures
 
 -- the room behind the first line
@@ -27,7 +27,7 @@ node_lines-requires c =
 pub returns : goal.returns
 returns c =
     let bytes = c.args.bytes.now in
-    let there = reached bytes c.scan-scanned.result c.in-Accepted.field-0 c.in-Accepted.is c.scan-scanned.ensures in
+    let there = reached bytes c.scan-scanned.result c.in-Ok.field-0 c.in-Ok.is c.scan-scanned.ensures in
     put_as
     (shown_reached bytes c.read.result c.read.ensures _ _ there c.dependence-table.result.cells c.dependence-table.ensures)
     (put_then c.first_line-at.ensures c.node_lines.ensures)

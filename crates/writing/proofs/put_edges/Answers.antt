@@ -7,15 +7,15 @@ use Rattle.writing.proofs.RecordPuts.{no_edges, edge_room, edge_more}
 use Rattle.writing.proofs.put_edges.Goals as goal
 
 pub loop-i-init : goal.loop-i-init
-loop-i-init c = (no_edges c.args.plan (omega (arith, c.requires.1)), omega arith)
+loop-i-init c = no_edges c.args.plan (omega (arith, c.requires.1))
 
-pub put_edge-at-requires : goal.put_edge-at-requires
-put_edge-at-requires c = edge_room c.args.plan c.loop-i.i c.loop-i.invariant.0 (omega arith) c.requires.1
+pub put_record-at-requires : goal.put_record-at-requires
+put_record-at-requires c = edge_room c.args.plan c.loop-i.i c.loop-i.invariant c.loop-i-test.true c.requires.1
 
 pub loop-i-preserved : goal.loop-i-preserved
-loop-i-preserved c = (edge_more c.args.plan c.loop-i.i c.loop-i.invariant.0 c.put_edge-at.ensures, omega arith)
+loop-i-preserved c = edge_more c.args.plan c.loop-i.i c.loop-i.invariant c.put_record-at.ensures
 
 pub returns : goal.returns
 returns c = let plan = c.args.plan in
     let all : c.loop-i.i ≡ plan.edges = omega arith in
-    put_as (ap (edges_bytes plan) all) c.loop-i.invariant.0
+    put_as (ap (edges_bytes plan) all) c.loop-i.invariant

@@ -1,14 +1,13 @@
 -- `writing::put_file` meets its contract: the sites, the nodes, the edges and the end record are the file's parts. Assumes nothing.
 use Prim.Native.Nat.{ℕ, ◌+◌, ◌≤◌, ◌<◌}
 use native.Mathlib.Omega.{arith}
-use mathlib.Core.Path.{refl}
 use mathlib.Core.List.{List, ◌++◌}
 use lib.ListN.{length}
 use Rattle.ids.specs.Limits.{sites, nodes, most_edges}
 use Rattle.model.specs.Writing.{plan_file}
 use Rattle.model.specs.declared.Plan.{Plan}
 use Rattle.text.specs.Put.{Put}
-use Rattle.text.proofs.PutLaws.{put_then, put_store, put_as, put_long}
+use Rattle.text.proofs.PutLaws.{put_then, put_as, put_long}
 use Rattle.writing.specs.Writes.{sites_bytes, nodes_bytes, edges_bytes}
 use Rattle.writing.proofs.FrontLaws.{file_parts, part_lengths}
 use Rattle.writing.proofs.put_file.Goals as goal
@@ -47,12 +46,15 @@ put_edges-end-requires c = (
   edges_room c.args.plan c.args.buffer.now c.requires.0 c.requires.1 c.put_sites-sites.ensures c.put_nodes-nodes.ensures,
 )
 
-pub bounds-buffer-end : goal.bounds-buffer-end
-bounds-buffer-end c =
-    end_room c.args.plan c.args.buffer.now c.requires.0 c.requires.1 c.put_sites-sites.ensures c.put_nodes-nodes.ensures c.put_edges-end.ensures
+pub put_record-requires : goal.put_record-requires
+put_record-requires c =
+    let room = end_room c.args.plan c.args.buffer.now c.requires.0 c.requires.1 c.put_sites-sites.ensures c.put_nodes-nodes.ensures
+    c.put_edges-end.ensures in
+    omega (arith, room)
 
 pub returns : goal.returns
 returns c =
     put_as (file_parts c.args.plan c.requires.0)
-    (put_store _ 4 _ refl refl (bounds-buffer-end c)
-    (records c.args.plan c.args.buffer.now c.requires.0 c.requires.1 c.put_sites-sites.ensures c.put_nodes-nodes.ensures c.put_edges-end.ensures))
+    (put_then
+    (records c.args.plan c.args.buffer.now c.requires.0 c.requires.1 c.put_sites-sites.ensures c.put_nodes-nodes.ensures c.put_edges-end.ensures)
+    c.put_record.ensures)
