@@ -1,6 +1,7 @@
 -- One call more of a table, in each array. Assumes nothing.
 use Prim.Native.Nat.{ℕ, ◌+◌, ◌<◌}
-use mathlib.Core.Path.{◌≡◌, sym, ap, subst}
+use native.Mathlib.Omega.{arith}
+use mathlib.Core.Path.{◌≡◌, sym, ap, subst, ◌∙◌}
 use mathlib.Core.List.{List, [], ◌∷◌, ◌++◌}
 use lib.ListN.{length, get_or, set}
 use Rattle.ids.specs.Limits.{most_open}
@@ -10,6 +11,8 @@ use Rattle.moves.specs.Held.{Tells, ticket_number, parent_number, node_number}
 use Rattle.moves.proofs.TableLaws.{tells_opened}
 use Rattle.value.specs.View.{call_of, spare, first_calls}
 use Rattle.value.specs.declared.Call.{Call as CallValue}
+use Rattle.table.specs.Places.{Padded}
+use Rattle.lists.proofs.TellLaws.{tell-past}
 use Rattle.apart.specs.Apart.{Holding}
 
 module _ (calls : List CallValue) (n : ℕ) where
@@ -37,6 +40,7 @@ module _ (calls : List CallValue) (n : ℕ) where
         of_nodes = tells_next {g = node_number} call.node.0 room h.of_nodes (ap (λ (c : CallValue). c.node.0) e);
       }
 
-pub holding_all : {calls : List CallValue} {n m : ℕ} {tickets parents nodes : List ℕ} → n ≡ m → Holding calls n tickets parents nodes
-    → Holding calls m tickets parents nodes
-holding_all {calls} {n} {m} {tickets} {parents} {nodes} e = subst (λ (k : ℕ). Holding calls k tickets parents nodes) e
+-- zeros tell no calls
+pub nothing_told : {g : Call → ℕ} (calls : List CallValue) {numbers : List ℕ} {used : ℕ} → Padded numbers used → used ≡ 0 → Tells g (first_calls calls 0) numbers
+nothing_told {g} calls {numbers} {used} p none =
+    record { whole = p.whole; each = λ i. p.zeros i (omega arith) ∙ sym (tell-past g (first_calls calls 0) i (omega (arith, first-length calls 0))) }

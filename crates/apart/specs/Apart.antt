@@ -19,11 +19,6 @@ pub record Holding (calls : List CallValue) (n : ℕ) (tickets parents nodes : L
   pub of_parents : Tells parent_number (first_calls calls n) parents
   pub of_nodes : Tells node_number (first_calls calls n) nodes
 
--- zeros, and no more open calls than they have places
-pub record Numberable (net : Net) (tickets parents nodes : List ℕ) : Type 0 where
-  pub few : net.used ≤ most_open
-  pub start : Holding net.calls 0 tickets parents nodes
-
 abbrev pub Numbers : Net → List ℕ → List ℕ → List ℕ → Type 0
 Numbers net tickets parents nodes = Holding net.calls net.used tickets parents nodes
 
@@ -35,10 +30,9 @@ key_in places levels c = cond c.active 0 (most_threads * get_or places c.node 0 
 abbrev pub Keyed : Net → ℕ → List ℕ → Type 0
 Keyed net n keys = Tells (key_of (records_of net.plan)) (first_calls net.calls n) keys
 
-pub record Keyable (net : Net) (keys : List ℕ) : Type 0 where
-  pub few : net.used ≤ most_open
-  pub known : (c : Call) → Memᴰ c (first_calls net.calls net.used) → has_node (records_of net.plan) c.node ≡ true
-  pub start : Keyed net 0 keys
+-- every open call's node has a record
+abbrev pub Known : Net → Type 0
+Known net = (c : Call) → Memᴰ c (first_calls net.calls net.used) → has_node (records_of net.plan) c.node ≡ true
 
 abbrev pub Keys : Net → List ℕ → Type 0
 Keys net keys = Keyed net net.used keys

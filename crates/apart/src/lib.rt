@@ -1,69 +1,51 @@
-// A net taken apart into the arrays of a run, and put together again from them. An inner crate: the library's own crates alone call it.
+// A net taken apart into the table of a run, and its table put together again from that. An inner crate: the library's own crates alone call it.
 #![tactic(auto)]
 
-ghost use Rattle.std.specs.Prelude.{◌≡◌};
+ghost use Rattle.std.specs.Prelude.{◌≡◌, ◌≤◌};
+ghost use Rattle.ids.specs.Limits.{most_open};
 ghost use Rattle.value.specs.View.{call_of};
-ghost use Rattle.apart.specs.Apart.{key_in, Numberable, Numbers, Keyable, Keys, Joinable, Joins};
+ghost use Rattle.apart.specs.Apart.{key_in, Numbers, Known, Keys, Joinable, Joins};
 
 use ids::{Node, Site, Ticket};
+use model::Plan;
+use table::Table;
 use value::{Call, Net};
 
-// The table of open calls by itself.
-#[derive(Clone, Copy)]
-pub struct Calls {
-    pub calls: [Call; Ticket::OPEN],
-}
-
-// The tickets, parents and nodes of the open calls, into arrays of zeros.
-pub fn numbers(net: Net, tickets: &mut [u16], parents: &mut [u16], nodes: &mut [u8])
-    requires { Numberable net tickets.old parents.old nodes.old }
-    ensures { Numbers net tickets.new parents.new nodes.new }
-{
-    let calls = net.calls;
-    for i in 0..net.used {
-        let call = calls[i];
-        tickets[i] = call.ticket.0;
-        parents[i] = call.parent.0;
-        nodes[i] = call.node.0;
-    }
-}
-
 // A call's key: 0 where it is active, else one more than the place of its room.
-fn key<'a>(call: Call, places: &'a [u8], levels: &'a [u8]) -> u16
-    ensures { result ≡ key_in places.now levels.now (call_of call) }
+fn key(call: Call, plan: &Plan) -> u16
+    ensures { result ≡ key_in plan.now.places plan.now.levels (call_of call) }
 {
     if call.active {
         return 0;
     }
     let node = call.node.0 as usize;
-    let base = Site::THREADS as u16 * record::byte(places, node) as u16;
-    base + record::byte(levels, node) as u16 + 1
+    let base = Site::THREADS as u16 * record::byte(&plan.places, node) as u16;
+    base + record::byte(&plan.levels, node) as u16 + 1
 }
 
-// The keys of the open calls, whose nodes have records, into an array of zeros.
-pub fn keys(net: Net, keys: &mut [u16])
-    requires { Keyable net keys.old }
-    ensures { Keys net keys.new }
+// The open calls as a run holds them; the keys are told where every node has a record.
+pub fn table(net: &Net) -> Table
+    requires { net.now.used ≤ most_open }
+    ensures numbered { Numbers net.now result.tickets result.parents result.nodes }
+    ensures keyed { Known net.now → Keys net.now result.keys }
+    ensures counted { result.used ≡ net.now.used }
 {
-    let calls = net.calls;
-    let plan = net.plan;
-    let places = plan.places;
-    let levels = plan.levels;
+    let mut table = Table::empty();
     for i in 0..net.used {
-        keys[i] = key(calls[i], &places, &levels);
+        let call = net.calls[i];
+        table.tickets[i] = call.ticket.0;
+        table.parents[i] = call.parent.0;
+        table.nodes[i] = call.node.0;
+        table.keys[i] = key(call, &net.plan);
     }
+    table.used = net.used;
+    table
 }
 
-// The table of the calls that the arrays hold.
-pub fn join<'a>(
-    tickets: &'a [u16],
-    parents: &'a [u16],
-    keys: &'a [u16],
-    nodes: &'a [u8],
-    used: usize,
-) -> Calls
-    requires { Joinable tickets.now parents.now keys.now nodes.now used }
-    ensures { Joins tickets.now parents.now keys.now nodes.now used result.calls }
+// The calls that a run's table holds, as a net has them.
+pub fn join(table: &Table) -> [Call; Ticket::OPEN]
+    requires { Joinable table.now.tickets table.now.parents table.now.keys table.now.nodes table.now.used }
+    ensures { Joins table.now.tickets table.now.parents table.now.keys table.now.nodes table.now.used result }
 {
     let spare = Call {
         ticket: Ticket(0),
@@ -72,13 +54,13 @@ pub fn join<'a>(
         active: false,
     };
     let mut calls = [spare; Ticket::OPEN];
-    for i in 0..used {
+    for i in 0..table.used {
         calls[i] = Call {
-            ticket: Ticket(tickets[i]),
-            parent: Ticket(parents[i]),
-            node: Node(nodes[i]),
-            active: keys[i] == 0,
+            ticket: Ticket(table.tickets[i]),
+            parent: Ticket(table.parents[i]),
+            node: Node(table.nodes[i]),
+            active: table.keys[i] == 0,
         };
     }
-    Calls { calls }
+    calls
 }

@@ -1,4 +1,4 @@
 pub mod BrokenLaws
 pub mod HeldLaws
 pub mod PartLaws
-pub mod FreshLaws
+pub mod ReadyLaws

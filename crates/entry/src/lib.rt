@@ -1,140 +1,94 @@
-// A net that is handed in, on its way into a run: its rules are tested one after the other, and the arrays hold it where it keeps them all. An inner
+// A net that is handed in, on its way into a run: its rules are tested one after the other, and a run holds it where it keeps them all. An inner
 // crate: the library's own crates alone call it.
 #![tactic(auto)]
 
-ghost use Rattle.moves.specs.Held.{arrays};
-ghost use Rattle.entry.specs.Entry.{PlanRules, NumberTested, NumberRules, CallTested, CallRules, SiteTested, SiteRules, FirstTested, FirstRules, KeyTested, KeyRules, Blank, Prepares};
+ghost use Rattle.model.specs.PlanValue.{records_of};
+ghost use Rattle.faults.specs.Seen.{Edging};
+ghost use Rattle.entry.specs.Entry.{RecordRule, PlanRules, NumberTested, NumberRules, CallTested, CallRules, SiteTested, SiteRules, Prepares};
 
 use ids::{Node, Ticket};
-use value::Net;
+use links::Rows;
+use model::Plan;
+use moves::Running;
+use table::Table;
+use value::{Net, NetRule};
 
-// Each of these answers the number of the first rule that is broken, of those that it tests, or 0.
+// Each of these answers the first rule that is broken, of those that it tests.
 
-// The rules on the counts of the value and on the plan.
-fn plan_rules(net: Net) -> u8
-    ensures { PlanRules net result }
+// The rule on the plan's records.
+fn record_rule(plan: Plan) -> Result<(), NetRule>
+    ensures { RecordRule plan result }
 {
-    let plan = net.plan;
-    if plan.edges > Node::EDGES {
-        return 1;
-    }
-    if net.used > Ticket::OPEN {
-        return 9;
-    }
     if !audit::passes(plan) {
-        return 1;
+        return Err(NetRule::Plan);
     }
-    0
+    Ok(())
 }
 
-// The rules on the tickets and the nodes of the calls that the arrays hold.
-fn number_rules<'a>(net: Net, tickets: &'a [u16], nodes: &'a [u8]) -> u8
-    requires { NumberTested net tickets.now nodes.now }
-    ensures { NumberRules net tickets.now nodes.now result }
+// The rules on the counts of the value and on the plan.
+fn plan_rules(net: &Net) -> Result<(), NetRule>
+    ensures { PlanRules net.now result }
 {
-    if !rules::tickets_kept(tickets, net.used) {
-        return 2;
+    if net.plan.edges > Node::EDGES {
+        return Err(NetRule::Plan);
     }
-    let plan = net.plan;
-    let places = plan.places;
-    if !rules::nodes_known(nodes, net.used, &places) {
-        return 3;
+    if net.used > Ticket::OPEN {
+        return Err(NetRule::TooManyOpen);
     }
-    0
+    record_rule(net.plan)
+}
+
+// The rules on the tickets and the nodes of the calls.
+fn number_rules(net: &Net, table: &Table) -> Result<(), NetRule>
+    requires { NumberTested net.now table.now }
+    ensures { NumberRules net.now result }
+{
+    if !rules::tickets_kept(table) {
+        return Err(NetRule::Tickets);
+    }
+    if !rules::nodes_known(table, &net.plan) {
+        return Err(NetRule::Nodes);
+    }
+    Ok(())
 }
 
 // The rules on the parents and on the counts of the active calls.
-fn call_rules<'a>(
-    net: Net,
-    tickets: &'a [u16],
-    parents: &'a [u16],
-    keys: &'a [u16],
-    nodes: &'a [u8],
-    edges: &'a [u64],
-) -> u8
-    requires { CallTested net tickets.now parents.now keys.now nodes.now edges.now }
-    ensures { CallRules net tickets.now parents.now keys.now nodes.now edges.now result }
+fn call_rules(net: &Net, table: &Table, edges: &Rows) -> Result<(), NetRule>
+    requires { CallTested net.now table.now edges.now.rows }
+    ensures { CallRules net.now result }
 {
-    let used = net.used;
-    if !rules::parents_kept(tickets, parents, keys, nodes, used, edges) {
-        return 4;
+    if !rules::parents_kept(table, edges) {
+        return Err(NetRule::Parents);
     }
-    let counts = net.counts;
-    let plan = net.plan;
-    let places = plan.places;
-    let levels = plan.levels;
-    if !tally::kept(&counts, keys, nodes, used, &places, &levels) {
-        return 5;
+    if !tally::kept(&net.counts, table, &net.plan) {
+        return Err(NetRule::Counts);
     }
-    0
+    Ok(())
 }
 
-// The rules on the sites and on the waiting calls; the rooms are filled in.
-fn site_rules(net: Net, keys: &[u16], rooms: &mut [u8]) -> u8
-    requires { SiteTested net keys.now rooms.old }
-    ensures { SiteRules net keys.now rooms.new result }
+// The rules on the sites and on the waiting calls; the run holds the rooms.
+fn site_rules(net: &Net, table: Table) -> Result<Running, NetRule>
+    requires { SiteTested net.now table }
+    ensures { SiteRules net.now table result }
 {
-    let counts = net.counts;
-    let plan = net.plan;
-    let threads = plan.threads;
-    if !tally::rooms_of(&counts, &threads, rooms) {
-        return 6;
+    let Some(rooms) = tally::rooms_of(&net.counts, &net.plan) else {
+        return Err(NetRule::Sites);
+    };
+    let running = Running { table, rooms };
+    if !rules::settled(&running, &net.plan) {
+        return Err(NetRule::Waiting);
     }
-    if !rules::settled(keys, rooms, net.used, &threads) {
-        return 7;
-    }
-    0
+    Ok(running)
 }
 
-// The first rules, with the numbers of the calls filled in between.
-fn first_rules(net: Net, tickets: &mut [u16], parents: &mut [u16], nodes: &mut [u8]) -> u8
-    requires { FirstTested tickets.old parents.old nodes.old }
-    ensures { FirstRules net tickets.new parents.new nodes.new result }
+// All rules; where none is broken a run holds the net. The edges are its plan's.
+pub fn prepare(net: &Net, edges: &Rows) -> Result<Running, NetRule>
+    requires { Edging (records_of net.now.plan) edges.now.rows }
+    ensures { Prepares net.now edges.now.rows result }
 {
-    let broken = plan_rules(net);
-    if broken != 0 {
-        return broken;
-    }
-    apart::numbers(net, tickets, parents, nodes);
-    number_rules(net, tickets, nodes)
-}
-
-// The rules on the calls, with their keys filled in before.
-fn key_rules<'a>(
-    net: Net,
-    tickets: &'a [u16],
-    parents: &'a [u16],
-    keys: &mut [u16],
-    nodes: &'a [u8],
-    edges: &'a [u64],
-) -> u8
-    requires { KeyTested net tickets.now parents.now keys.old nodes.now edges.now }
-    ensures { KeyRules net tickets.now parents.now keys.new nodes.now edges.now result }
-{
-    apart::keys(net, keys);
-    call_rules(net, tickets, parents, keys, nodes, edges)
-}
-
-// All rules; where none is broken the arrays hold the net. The edges are its plan's.
-pub fn prepare(
-    net: Net,
-    tickets: &mut [u16],
-    parents: &mut [u16],
-    keys: &mut [u16],
-    nodes: &mut [u8],
-    rooms: &mut [u8],
-    edges: &[u64],
-) -> u8
-    requires { Blank net (arrays tickets.old parents.old keys.old nodes.old rooms.old) edges.now }
-    ensures { Prepares net (arrays tickets.new parents.new keys.new nodes.new rooms.new) edges.now result }
-{
-    let first = first_rules(net, tickets, parents, nodes);
-    if first != 0 {
-        return first;
-    }
-    let second = key_rules(net, tickets, parents, keys, nodes, edges);
-    if second != 0 {
-        return second;
-    }
-    site_rules(net, keys, rooms)
+    plan_rules(net)?;
+    let table = apart::table(net);
+    number_rules(net, &table)?;
+    call_rules(net, &table, edges)?;
+    site_rules(net, table)
 }

@@ -5,8 +5,11 @@ use native.Mathlib.Omega.{arith}
 use mathlib.Core.Path.{◌≡◌, refl, sym, ap, subst, ◌∙◌}
 use mathlib.Core.Bool.{Bool, true, false, cond}
 use mathlib.Core.List.{List, [], ◌∷◌}
-use mathlib.Core.Option.{Option, none, some}
+use mathlib.Core.Option.{Option as Maybe, none, some}
+use Rattle.std.specs.Prelude.{Option, Some, None}
 use lib.ListN.{length, get_or}
+use lib.Dec.{ltb}
+use borrow.Author.Tests.{lt-ltb, le-ltb}
 use Rattle.ids.specs.Limits.{most_open}
 use Rattle.lists.specs.Pick.{any, found, passes_at, first_place}
 use Rattle.lists.proofs.TabledLaws.{length-tabled, get_or-tabled}
@@ -15,7 +18,7 @@ use Rattle.model.specs.Net.{Call, has, lookup}
 use Rattle.value.specs.View.{call_of, spare, first_calls, core_of}
 use Rattle.value.specs.declared.Call.{Call as CallValue}
 use Rattle.value.specs.declared.Net.{Net}
-use Rattle.lookup.specs.Lookup.{has_at, place_in}
+use Rattle.lookup.specs.Lookup.{has_at, place_in, placed}
 use Rattle.lookup.proofs.SearchLaws.{has_inside}
 
 -- Lists
@@ -79,20 +82,29 @@ module _ (calls : List CallValue) (used ticket : ℕ) (inside : used ≤ length 
 
 -- A net
 
--- what a place says of a ticket: it is that of the open call, or the count of the open calls where none has the ticket
-pub data StandsAt (net : Net) (ticket at : ℕ) : Type 0 where
-  nowhere : lookup (core_of net).calls ticket ≡ none → at ≡ net.used → StandsAt net ticket at
-  there : (c : Call) → lookup (core_of net).calls ticket ≡ some c → at < net.used → call_of (get_or net.calls at spare) ≡ c → StandsAt net ticket at
+-- what an answer says of a ticket: the place of its open call, or none where no open call has it
+pub data StandsAt (net : Net) (ticket : ℕ) (answer : Option ℕ) : Type 0 where
+  nowhere : lookup (core_of net).calls ticket ≡ none → answer ≡ None → StandsAt net ticket answer
+  there : (c : Call) (at : ℕ) → lookup (core_of net).calls ticket ≡ some c → answer ≡ Some at → at < net.used
+      → call_of (get_or net.calls at spare) ≡ c
+      → StandsAt net ticket answer
 
 pub stands_at : (net : Net) (ticket : ℕ) → length net.calls ≡ most_open → net.used ≤ most_open
-    → StandsAt net ticket (place_in net.calls net.used ticket)
+    → StandsAt net ticket (placed net.used (place_in net.calls net.used ticket))
 unfolding core_of cs
 stands_at net ticket whole few = go (lookup (core_of net).calls ticket) refl
   where
     inside : net.used ≤ length net.calls
     inside = subst (λ (n : ℕ). net.used ≤ n) (sym whole) few
 
-    go : (o : Option Call) → lookup (core_of net).calls ticket ≡ o → StandsAt net ticket (place_in net.calls net.used ticket)
-    go none q = nowhere q (place_none net.calls net.used ticket inside q)
+    at : ℕ
+    at = place_in net.calls net.used ticket
+
+    told : (b : Bool) → ltb at net.used ≡ b → placed net.used at ≡ cond b (Some at) None
+    told b e = ap (λ (t : Bool). cond t (Some at) None) e
+
+    go : (o : Maybe Call) → lookup (core_of net).calls ticket ≡ o → StandsAt net ticket (placed net.used at)
+    go none q = nowhere q (told false (le-ltb at net.used (omega (arith, place_none net.calls net.used ticket inside q))))
     go (some c) q =
-        there c q (place_below net.calls net.used ticket inside c q) (call_there net.calls net.used ticket inside c q)
+        let below : at < net.used = place_below net.calls net.used ticket inside c q in
+        there c at q (told true (lt-ltb at net.used below)) below (call_there net.calls net.used ticket inside c q)

@@ -1,5 +1,5 @@
 -- Where a ticket stands in a table of calls. Assumes nothing.
-use Rattle.std.specs.Prelude.{ℕ, Bool, ◌&&◌, List, length, get_or, ltb, eqb}
+use Rattle.std.specs.Prelude.{ℕ, Bool, ◌&&◌, List, cond, length, get_or, ltb, eqb, Option, Some, None}
 use Rattle.lists.specs.Count.{first}
 use Rattle.value.specs.View.{spare}
 use Rattle.value.specs.declared.Call.{Call}
@@ -11,3 +11,7 @@ has_at calls ticket i = ltb i (length calls) && eqb (get_or calls i spare).ticke
 -- the first such place below `used`, else `used`
 unfoldable pub place_in : List Call → ℕ → ℕ → ℕ
 place_in calls used ticket = first used (has_at calls ticket)
+
+-- a place below `used`, and none at it or past it
+abbrev pub placed : ℕ → ℕ → Option ℕ
+placed used at = cond (ltb at used) (Some at) None

@@ -1,7 +1,7 @@
 -- The tellings of the site book's and the commands' answers are injective, so that a promise through one determines the answer: the telling's entries show the
 -- case and its values. Assumes nothing.
 use mathlib.Core.Path.{◌≡◌, refl, ap, ap₂}
-use Prim.Native.Nat.{ℕ, suc}
+use Prim.Native.Nat.{ℕ}
 use native.Mathlib.Omega.{arith}
 use Rattle.model.specs.Answers.{level_number, told_level, told_admission, told_room}
 use Rattle.model.specs.Command.{Answer, refused, active, waiting, ended, told, Standing, is-running, is-waiting, not_open, told_standing}

@@ -6,7 +6,7 @@ use mathlib.Core.Bool.{cond}
 use lib.Dec.{eqb}
 use Rattle.std.specs.Prelude.{Result, Ok, Err}
 use Rattle.model.specs.PlanValue.{refusal_number, told_read}
-use Rattle.model.specs.Refusal.{refusal_told}
+use Rattle.model.specs.Refusal.{refusal_told, refusal_numbered}
 use Rattle.model.specs.declared.Refusal.{Refusal}
 use Rattle.model.specs.declared.PlanRefusal.{PlanRefusal}
 use Rattle.model.specs.declared.ReadFault.{ReadFault}
@@ -49,23 +49,7 @@ read_injective (Err f) (Err g) e =
     ap₂ (λ (w : PlanRefusal) (o : ℕ). Err (record { why = w; offset = o })) (refusal_injective f.why g.why why) at
 
 -- the same of the refusals of nets, commands and questions
-abbrev told_of : ℕ → Refusal
-told_of n =
-    cond (eqb n 18) Refusal.BrokenPlan
-    (cond (eqb n 19) Refusal.BrokenNet
-    (cond (eqb n 20) Refusal.NoTicket
-    (cond (eqb n 21) Refusal.TicketOpen
-    (cond (eqb n 22) Refusal.NoSuchNode
-    (cond (eqb n 23) Refusal.ParentNotOpen
-    (cond (eqb n 24) Refusal.ParentWaits
-    (cond (eqb n 25) Refusal.NoSuchEdge
-    (cond (eqb n 26) Refusal.TooManyOpen
-    (cond (eqb n 27) Refusal.NotOpen
-    (cond (eqb n 28) Refusal.StillWaits
-    (cond (eqb n 29) Refusal.ChildOpen
-    (cond (eqb n 30) Refusal.NoSuchRoom Refusal.NotWaiting))))))))))))
-
-pub told_named : (w : Refusal) → (told_of (refusal_told w) ≡ w) × (refusal_told w ≡ 0 → ⊥)
+pub told_named : (w : Refusal) → (refusal_numbered (refusal_told w) ≡ w) × (refusal_told w ≡ 0 → ⊥)
 told_named Refusal.BrokenPlan = (refl, λ e. omega arith)
 told_named Refusal.BrokenNet = (refl, λ e. omega arith)
 told_named Refusal.NoTicket = (refl, λ e. omega arith)
@@ -82,4 +66,4 @@ told_named Refusal.NoSuchRoom = (refl, λ e. omega arith)
 told_named Refusal.NotWaiting = (refl, λ e. omega arith)
 
 pub told_injective : (a b : Refusal) → refusal_told a ≡ refusal_told b → a ≡ b
-told_injective a b e = sym (told_named a).0 ∙ ap told_of e ∙ (told_named b).0
+told_injective a b e = sym (told_named a).0 ∙ ap refusal_numbered e ∙ (told_named b).0

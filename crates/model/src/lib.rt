@@ -59,7 +59,7 @@ pub struct Edge {
 
 // A plan by its numbers: the threads of each site, 0 where it has no record; the site of each node, `Plan::NOWHERE` where it has no record (any
 // other number is a record, also where it is no site), and its level; and the call edges in their order. What no record has set is as in the empty plan.
-#[derive(Clone, Copy)]
+#[derive(Clone, Copy, PartialEq, Eq)]
 pub struct Plan {
     pub threads: [u8; Site::COUNT],
     pub places: [u8; Node::COUNT],

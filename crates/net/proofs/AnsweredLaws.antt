@@ -5,7 +5,9 @@ use native.Mathlib.Omega.{arith}
 use mathlib.Core.Path.{◌≡◌, refl, sym, ap, subst, ◌∙◌}
 use mathlib.Core.Bool.{Bool, true, false, cond}
 use mathlib.Core.List.{List}
-use mathlib.Core.Option.{Option, none, some}
+use mathlib.Core.Option.{Option as Maybe, none, some}
+use Rattle.std.specs.Prelude.{Option, Some, None, Result, Ok, Err}
+use Rattle.std.specs.Result.{IsErrAnd}
 use lib.ListN.{length, get_or}
 use lib.Dec.{eqb, ltb}
 use borrow.Author.Tests.{eq-eqb, ne_eqb}
@@ -14,21 +16,23 @@ use Rattle.model.specs.Plan.{Record}
 use Rattle.model.specs.PlanValue.{records_of}
 use Rattle.model.specs.Net.{Call, lookup}
 use Rattle.model.specs.NetRules.{broken_rule}
-use Rattle.model.specs.Command.{Command, step, Standing, standing, ask, room_at}
-use Rattle.model.specs.Refusals.{net_refusal}
+use Rattle.model.specs.Command.{Command, step, Standing, standing, ask, Roomed, has_room, room_refused, room_at}
+use Rattle.model.specs.declared.Refusal.{Refusal}
+use Rattle.model.specs.Refusal.{refusal_told, refusal_numbered}
+use Rattle.model.proofs.RefusalLaws.{told_named}
 use Rattle.model.proofs.NetRuleLaws.{rules_exactly}
 use Rattle.model.proofs.StepLaws.{step_plan}
-use Rattle.moves.specs.Held.{Arrays, Held}
+use Rattle.moves.specs.Held.{Arrays, Held, arrays_of}
+use Rattle.moves.specs.declared.Running.{Running as Run}
 use Rattle.steps.specs.Running.{Stepped, Running, RoomSeen}
 use Rattle.text.specs.declared.Printed.{Printed}
-use Rattle.value.specs.View.{spare, core_of, row_of, broken}
+use Rattle.text.specs.Lines.{a_refusal, shown_told, of_room}
+use Rattle.value.specs.View.{call_of, spare, core_of, row_of, broken}
 use Rattle.value.specs.Handed.{outcome_value, command_answered, standing_value, ask_answered, room_value, room_answered}
 use Rattle.value.specs.declared.Net.{Net}
 use Rattle.value.specs.declared.Commanded.{Commanded}
-use Rattle.value.specs.declared.CommandAnswer.{CommandAnswer}
-use Rattle.value.specs.declared.AskAnswer.{AskAnswer}
-use Rattle.value.specs.declared.NetRoom.{NetRoom}
-use Rattle.lookup.specs.Lookup.{place_in}
+use Rattle.value.specs.declared.Standing.{Standing as StandingValue}
+use Rattle.lookup.specs.Lookup.{place_in, placed}
 use Rattle.lookup.proofs.FoundLaws.{StandsAt, nowhere, there, stands_at}
 use Rattle.apart.proofs.ApartLaws.{first-length}
 use Rattle.pack.specs.Packed.{Handing}
@@ -40,27 +44,27 @@ module _ (net : Net) where
 
   -- A broken rule
 
-  module _ (r : ℕ) (r-is : r ≡ broken net) (bad : r ≡ 0 → ⊥) where
+  module _ (bad : broken net ≡ 0 → ⊥) where
     not_sound : eqb (broken net) 0 ≡ false
-    not_sound = ne_eqb (broken net) 0 (λ e. bad (r-is ∙ e))
+    not_sound = ne_eqb (broken net) 0 bad
 
-    pub broken_answered : (c : Command) → ◌≡◌ {A = Commanded} (record { answer = CommandAnswer.Refused net_refusal; net = net }) (command_answered net c)
+    pub broken_answered : (c : Command) → ◌≡◌ {A = Commanded} (record { answer = Err Refusal.BrokenNet; net = net }) (command_answered net c)
     unfolding command_answered
     broken_answered c = sym (rw not_sound)
 
-    pub broken-asked : (t : ℕ) → AskAnswer.Refused net_refusal ≡ ask_answered net t
+    pub broken-asked : (t : ℕ) → Err Refusal.BrokenNet ≡ ask_answered net t
     unfolding ask_answered
     broken-asked t = sym (rw not_sound)
 
-    pub broken-room : (s k : ℕ) → NetRoom.Refused net_refusal ≡ room_answered net s k
+    pub broken-room : (s k : ℕ) → Err Refusal.BrokenNet ≡ room_answered net s k
     unfolding room_answered
     broken-room s k = sym (rw not_sound)
 
   -- None is broken
 
-  module _ (r : ℕ) (r-is : r ≡ broken net) (none_there : r ≡ 0) where
+  module _ (none_there : 0 ≡ broken net) where
     none_broken : broken net ≡ 0
-    none_broken = sym r-is ∙ none_there
+    none_broken = sym none_there
 
     sound : eqb (broken net) 0 ≡ true
     sound = eq-eqb (broken net) 0 none_broken
@@ -72,12 +76,13 @@ module _ (net : Net) where
       unfolding command_answered
       step-answered got e = e ∙ sym (rw sound)
 
-      pub handing : {b : Arrays} {used : ℕ} {what : Printed} {most-of places levels edges : List ℕ}
-          → Stepped (step (core_of net) c) b used what most-of places levels edges
-          → Handing net (step (core_of net) c) what b.tickets b.parents b.keys b.nodes used
-      handing {b} {used} stepped =
-          let h : Held (records_of net.plan) (step (core_of net) c).core.calls b used =
-          subst (λ (rs : List Record). Held rs (step (core_of net) c).core.calls b used) (step_plan (core_of net) c ∙ its_plan) stepped.runs_on.held
+      pub handing : {run : Run} {what : Result Printed Refusal} {most-of places levels edges : List ℕ}
+          → Stepped (step (core_of net) c) (arrays_of run) run.table.used (shown_told what) most-of places levels edges
+          → Handing net (step (core_of net) c) what run.table
+      handing {run} stepped =
+          let h : Held (records_of net.plan) (step (core_of net) c).core.calls (arrays_of run) run.table.used =
+          subst (λ (rs : List Record). Held rs (step (core_of net) c).core.calls (arrays_of run) run.table.used)
+          (step_plan (core_of net) c ∙ its_plan) stepped.runs_on.held
           in
           record {
             says = stepped.says;
@@ -109,42 +114,65 @@ module _ (net : Net) where
         let rules = (rules_exactly (core_of net) (row_of net.counts)).0 (rule_0 (ltb most_edges net.plan.edges) refl none_broken) in
         omega (arith, rules.few_open, first-length net.calls net.used)
 
-    module _ (t : ℕ) (whole : length net.calls ≡ most_open) (at : ℕ) (at_is : at ≡ place_in net.calls net.used t) where
-      stands : StandsAt net t at
-      stands = subst (StandsAt net t) (sym at_is) (stands_at net t whole few)
+    module _ (t : ℕ) (whole : length net.calls ≡ most_open) (answer : Option ℕ) (is : answer ≡ placed net.used (place_in net.calls net.used t)) where
+      stands : StandsAt net t answer
+      stands = subst (StandsAt net t) (sym is) (stands_at net t whole few)
 
-      its-standing : (o : Option Call) → lookup (core_of net).calls t ≡ o → ask_answered net t ≡ standing_value (standing o)
+      its-standing : (o : Maybe Call) → lookup (core_of net).calls t ≡ o → ask_answered net t ≡ Ok (standing_value (standing o))
       unfolding ask_answered ask
-      its-standing o e = rw sound (ap (λ (p : Option Call). standing_value (standing p)) e)
+      its-standing o e = rw sound (ap (λ (p : Maybe Call). Ok (standing_value (standing p))) e)
 
-      pub asked_nobody : net.used ≤ at → AskAnswer.NotOpen ≡ ask_answered net t
-      asked_nobody h = go stands
+      pub asked_nobody : answer ≡ None → Ok StandingValue.NotOpen ≡ ask_answered net t
+      asked_nobody none_found = go stands
         where
-          go : StandsAt net t at → AskAnswer.NotOpen ≡ ask_answered net t
+          go : StandsAt net t answer → Ok StandingValue.NotOpen ≡ ask_answered net t
           go (nowhere e q) = sym (its-standing none e)
-          go (there c e inside q) = absurd (omega arith)
+          go (there c at e q inside here) = cc
 
-      asked-there : at < net.used → ask_answered net t ≡ standing_value (cond (get_or net.calls at spare).active Standing.is-running Standing.is-waiting)
-      asked-there h = go stands
-        where
-          go : StandsAt net t at → ask_answered net t ≡ standing_value (cond (get_or net.calls at spare).active Standing.is-running Standing.is-waiting)
-          go (nowhere e q) = absurd (omega arith)
-          go (there c e inside q) =
-              its-standing (some c) e
-              ∙ ap (λ (d : Call). standing_value (cond d.active Standing.is-running Standing.is-waiting)) (sym q)
+      module _ (at : ℕ) (found : answer ≡ Some at) where
+        pub inside_there : at < most_open
+        inside_there = go stands
+          where
+            go : StandsAt net t answer → at < most_open
+            go (nowhere e q) = cc
+            go (there c i e q inside here) = let same : i ≡ at = cc in omega (arith, few)
 
-      pub asked-active : at < net.used → (get_or net.calls at spare).active ≡ true → AskAnswer.Active ≡ ask_answered net t
-      asked-active h e = sym (asked-there h ∙ ap (λ (b : Bool). standing_value (cond b Standing.is-running Standing.is-waiting)) e)
+        asked-there : ask_answered net t ≡ Ok (standing_value (cond (get_or net.calls at spare).active Standing.is-running Standing.is-waiting))
+        asked-there = go stands
+          where
+            go : StandsAt net t answer
+                → ask_answered net t ≡ Ok (standing_value (cond (get_or net.calls at spare).active Standing.is-running Standing.is-waiting))
+            go (nowhere e q) = cc
+            go (there c i e q inside here) =
+                let same : i ≡ at = cc in
+                its-standing (some c) e
+                ∙ ap (λ (d : Call). Ok (standing_value (cond d.active Standing.is-running Standing.is-waiting)))
+                (sym here ∙ ap (λ (j : ℕ). call_of (get_or net.calls j spare)) same)
 
-      pub asked_waiting : at < net.used → (get_or net.calls at spare).active ≡ false → AskAnswer.Waiting ≡ ask_answered net t
-      asked_waiting h e = sym (asked-there h ∙ ap (λ (b : Bool). standing_value (cond b Standing.is-running Standing.is-waiting)) e)
+        pub asked-active : (get_or net.calls at spare).active ≡ true → Ok StandingValue.Active ≡ ask_answered net t
+        asked-active e = sym (asked-there ∙ ap (λ (b : Bool). Ok (standing_value (cond b Standing.is-running Standing.is-waiting))) e)
+
+        pub asked_waiting : (get_or net.calls at spare).active ≡ false → Ok StandingValue.Waiting ≡ ask_answered net t
+        asked_waiting e = sym (asked-there ∙ ap (λ (b : Bool). Ok (standing_value (cond b Standing.is-running Standing.is-waiting))) e)
 
     -- Rooms
 
-    pub room_there : (s k : ℕ) (got : NetRoom) → got ≡ room_value (room_at (core_of net) s k) → got ≡ room_answered net s k
+    pub room_there : (s k : ℕ) (got : Result ℕ Refusal) → got ≡ room_value (room_at (core_of net) s k) → got ≡ room_answered net s k
     unfolding room_answered
     room_there s k got e = e ∙ sym (rw sound)
 
 pub room_seen : (net : Net) {a : Arrays} {used : ℕ} {most-of places levels edges : List ℕ} → Running (core_of net) a used most-of places levels edges
     → RoomSeen (core_of net) a.rooms most-of
 room_seen net run = record { pass = run.keeps.plan_passes; law = run.keeps.sites_lawful; of_rooms = run.held.of_rooms; staffed = run.planned.staffed }
+
+-- a refusal that is handed on is that refusal
+pub refused_is : {A : Type 0} (r : Result A Refusal) (why : Refusal) → IsErrAnd r (λ e. e ≡ why) → r ≡ Err why
+refused_is (Ok x) why h = absurd h
+refused_is (Err e) why h = ap Err h
+
+-- a room that is not there
+pub refused_room : (why : Refusal) (a : Roomed) → a_refusal (refusal_told why) ≡ of_room a → Err why ≡ room_value a
+refused_room why (has_room n) e = cc
+refused_room why (room_refused n) e =
+    let same : refusal_told why ≡ n = cc in
+    ap Err (sym (told_named why).0 ∙ ap refusal_numbered same)

@@ -6,6 +6,7 @@ use mathlib.Core.Path.{◌≡◌, refl, sym, ap, subst, ◌∙◌}
 use mathlib.Core.Logic.{◌↔◌, ⊎_elim}
 use mathlib.Core.Bool.{Bool, true, false, cond}
 use mathlib.Core.List.{List, [], ◌∷◌}
+use Rattle.std.specs.Prelude.{Result, Ok, Err}
 use lib.Dec.{eqb}
 use borrow.Author.Tests.{eq-eqb, eqb-true, eqb-false}
 use Rattle.ids.specs.Limits.{most_edges}
@@ -18,7 +19,7 @@ use Rattle.model.specs.Net.{Core, admissible, in_the_way, empty_net}
 use Rattle.model.specs.NetRules.{Keeps}
 use Rattle.model.specs.Command.{Command, start, call, return, take_back, Answer, refused, active, waiting, ended, fault, done, opening, serving, withdrawing, step, run}
 use Rattle.model.specs.Demands.{Safe}
-use Rattle.model.specs.Refusals.{plan_refusal, net_refusal}
+use Rattle.model.specs.declared.Refusal.{Refusal}
 use Rattle.model.specs.declared.Plan.{Plan}
 use Rattle.model.proofs.PlanFaultLaws.{plan_fault_none}
 use Rattle.model.proofs.PlanValueLaws.{edges-value, records_value}
@@ -28,7 +29,6 @@ use Rattle.model.proofs.Demands.{demand_3}
 use Rattle.value.specs.View.{core_of, broken}
 use Rattle.value.specs.Handed.{value_of, answer_value, net_after, outcome_value, command_answered, make_answered}
 use Rattle.value.specs.declared.Net.{Net}
-use Rattle.value.specs.declared.CommandAnswer.{CommandAnswer}
 use Rattle.net.specs.Demands.{net_behind, ValueDemands}
 use Rattle.net.proofs.ValueLaws.{core_back, value_sound, sound_parts, sound_rules, rules_sound, sound_keeps}
 use Rattle.net.proofs.AnsweredLaws.{broken_answered, broken-asked, broken-room}
@@ -108,15 +108,15 @@ folds net sound (c ∷ cs) =
 
 -- Making
 
-made_0 : (p : Plan) → ((make_answered p).refusal ≡ 0) ↔ (plan_fault p ≡ 0)
+made_0 : (p : Plan) → ((make_answered p).answer ≡ Ok tt) ↔ (plan_fault p ≡ 0)
 unfolding make_answered
 made_0 p = go (eqb (plan_fault p) 0) refl
   where
-    go : (b : Bool) → eqb (plan_fault p) 0 ≡ b → (cond b 0 plan_refusal ≡ 0) ↔ (plan_fault p ≡ 0)
+    go : (b : Bool) → eqb (plan_fault p) 0 ≡ b → (◌≡◌ {A = Result Unit Refusal} (cond b (Ok tt) (Err Refusal.BrokenPlan)) (Ok tt)) ↔ (plan_fault p ≡ 0)
     go true e = ((λ _. eqb-true (plan_fault p) 0 e), λ _. refl)
-    go false e = ((λ q. absurd (omega arith)), λ q. absurd (eqb-false (plan_fault p) 0 e q))
+    go false e = ((λ q. cc), λ q. absurd (eqb-false (plan_fault p) 0 e q))
 
-module _ (p : Plan) (none : (make_answered p).refusal ≡ 0) where
+module _ (p : Plan) (none : (make_answered p).answer ≡ Ok tt) where
   accepted_plan : (p.edges ≤ most_edges) × PlanOk (records_of p)
   accepted_plan = (plan_fault_none p).0 ((made_0 p).0 none)
 
@@ -140,20 +140,20 @@ module _ (p : Plan) (none : (make_answered p).refusal ≡ 0) where
 
 -- The page
 
-refused_back : (net : Net) (core : Core) (a : Answer) (n : ℕ) → answer_value a ≡ CommandAnswer.Refused n → net_after net core a ≡ net
-refused_back net core (refused m) n e = refl
-refused_back net core active n e = let z : ◌≡◌ {A = ℕ} 0 1 = cc in absurd (omega arith)
-refused_back net core (waiting k) n e = let z : ◌≡◌ {A = ℕ} 0 1 = cc in absurd (omega arith)
-refused_back net core (ended t) n e = let z : ◌≡◌ {A = ℕ} 0 1 = cc in absurd (omega arith)
+refused_back : (net : Net) (core : Core) (a : Answer) (why : Refusal) → answer_value a ≡ Err why → net_after net core a ≡ net
+refused_back net core (refused m) why e = refl
+refused_back net core active why e = cc
+refused_back net core (waiting k) why e = cc
+refused_back net core (ended t) why e = cc
 
-same_net : (net : Net) (c : Command) (n : ℕ) → (command_answered net c).answer ≡ CommandAnswer.Refused n → (command_answered net c).net ≡ net
+same_net : (net : Net) (c : Command) (why : Refusal) → (command_answered net c).answer ≡ Err why → (command_answered net c).net ≡ net
 unfolding command_answered
-same_net net c n e = go (eqb (broken net) 0) refl e
+same_net net c why e = go (eqb (broken net) 0) refl e
   where
     go : (b : Bool) → eqb (broken net) 0 ≡ b
-        → (cond b (outcome_value net (step (core_of net) c)) (record { answer = CommandAnswer.Refused net_refusal; net = net })).answer ≡ CommandAnswer.Refused n
-        → (cond b (outcome_value net (step (core_of net) c)) (record { answer = CommandAnswer.Refused net_refusal; net = net })).net ≡ net
-    go true q f = refused_back net (step (core_of net) c).core (step (core_of net) c).answer n f
+        → (cond b (outcome_value net (step (core_of net) c)) (record { answer = Err Refusal.BrokenNet; net = net })).answer ≡ Err why
+        → (cond b (outcome_value net (step (core_of net) c)) (record { answer = Err Refusal.BrokenNet; net = net })).net ≡ net
+    go true q f = refused_back net (step (core_of net) c).core (step (core_of net) c).answer why f
     go false q f = refl
 
 pub value_demands : ValueDemands
@@ -164,9 +164,9 @@ value_demands =
       folded = folds;
       sound_when = λ net. (sound_rules net, λ k. rules_sound net k.0 k.1);
       broken_19 = λ net bad. (
-        (λ c. sym (broken_answered net (broken net) refl bad c)),
-        (λ ticket. sym (broken-asked net (broken net) refl bad ticket)),
-        λ s k. sym (broken-room net (broken net) refl bad s k),
+        (λ c. sym (broken_answered net bad c)),
+        (λ ticket. sym (broken-asked net bad ticket)),
+        λ s k. sym (broken-room net bad s k),
       );
       made_when = λ p. ((λ e. accepted_plan p e), λ ok. (made_0 p).1 ((plan_fault_none p).1 ok));
       made_empty = made_told;

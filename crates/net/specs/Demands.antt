@@ -1,21 +1,18 @@
 -- The customer's demands of the values that the library hands back: what the page of demands (`model`, specs/Demands) says of nets holds of them, since the
 -- functions of `net` answer by the definitions named here. Assumes nothing.
-use Rattle.std.specs.Prelude.{ℕ, ◌≤◌, ◌≡◌, ◌↔◌, List, [], ◌∷◌}
+use Rattle.std.specs.Prelude.{ℕ, ◌≤◌, ◌≡◌, ◌↔◌, List, [], ◌∷◌, Ok, Err}
 use Rattle.ids.specs.Limits.{most_edges}
 use Rattle.model.specs.Reading.{PlanOk}
 use Rattle.model.specs.PlanValue.{records_of}
 use Rattle.model.specs.Net.{empty_net}
 use Rattle.model.specs.NetRules.{NetRules}
 use Rattle.model.specs.Command.{Command, step, run}
-use Rattle.model.specs.Refusals.{net_refusal}
+use Rattle.model.specs.declared.Refusal.{Refusal}
 use Rattle.model.specs.Demands.{Safe}
 use Rattle.model.specs.declared.Plan.{Plan}
 use Rattle.value.specs.View.{core_of, row_of, broken}
 use Rattle.value.specs.Handed.{answer_value, command_answered, ask_answered, room_answered, make_answered}
 use Rattle.value.specs.declared.Net.{Net}
-use Rattle.value.specs.declared.CommandAnswer.{CommandAnswer}
-use Rattle.value.specs.declared.AskAnswer.{AskAnswer}
-use Rattle.value.specs.declared.NetRoom.{NetRoom}
 
 -- the net behind some commands, each answered by the library
 abbrev pub net_behind : Net → List Command → Net
@@ -24,7 +21,7 @@ net_behind net (c ∷ cs) = net_behind (command_answered net c).net cs
 
 pub record ValueDemands : Type 0 where
   -- "a refused command changes nothing": the very net
-  pub refused_same : (net : Net) (c : Command) (n : ℕ) → (command_answered net c).answer ≡ CommandAnswer.Refused n → (command_answered net c).net ≡ net
+  pub refused_same : (net : Net) (c : Command) (why : Refusal) → (command_answered net c).answer ≡ Err why → (command_answered net c).net ≡ net
   -- "Every start, call and return gets LIVE-P's answer .. and leaves the state that the paper and the rules define": those of `step`
   pub answered : (net : Net) → broken net ≡ 0 → (c : Command)
       → ((command_answered net c).answer ≡ answer_value (step (core_of net) c).answer) × (core_of (command_answered net c).net ≡ (step (core_of net) c).core)
@@ -35,11 +32,11 @@ pub record ValueDemands : Type 0 where
   -- question and every room is answered 19, and the net handed back as it came
   pub sound_when : (net : Net) → (broken net ≡ 0) ↔ ((net.plan.edges ≤ most_edges) × NetRules (core_of net) (row_of net.counts))
   pub broken_19 : (net : Net) → (broken net ≡ 0 → ⊥)
-      → ((c : Command) → command_answered net c ≡ record { answer = CommandAnswer.Refused net_refusal; net = net })
-      × ((ticket : ℕ) → ask_answered net ticket ≡ AskAnswer.Refused net_refusal) × ((s k : ℕ) → room_answered net s k ≡ NetRoom.Refused net_refusal)
+      → ((c : Command) → command_answered net c ≡ record { answer = Err Refusal.BrokenNet; net = net })
+      × ((ticket : ℕ) → ask_answered net ticket ≡ Err Refusal.BrokenNet) × ((s k : ℕ) → room_answered net s k ≡ Err Refusal.BrokenNet)
   -- a net is made exactly from a plan that is to be accepted, and it is empty and sound
-  pub made_when : (p : Plan) → ((make_answered p).refusal ≡ 0) ↔ ((p.edges ≤ most_edges) × PlanOk (records_of p))
-  pub made_empty : (p : Plan) → (make_answered p).refusal ≡ 0
+  pub made_when : (p : Plan) → ((make_answered p).answer ≡ Ok tt) ↔ ((p.edges ≤ most_edges) × PlanOk (records_of p))
+  pub made_empty : (p : Plan) → (make_answered p).answer ≡ Ok tt
       → (core_of (make_answered p).net ≡ empty_net (records_of p)) × (broken (make_answered p).net ≡ 0)
   -- "From an empty net under an accepted plan, after any commands, refused ones too": demand 3
-  pub always_safe : (p : Plan) → (make_answered p).refusal ≡ 0 → (commands : List Command) → Safe (core_of (net_behind (make_answered p).net commands))
+  pub always_safe : (p : Plan) → (make_answered p).answer ≡ Ok tt → (commands : List Command) → Safe (core_of (net_behind (make_answered p).net commands))

@@ -1,22 +1,21 @@
 -- What the helpers of the net's functions answer. For the contracts of `net`. Assumes nothing.
-use Rattle.std.specs.Prelude.{ℕ, ◌≡◌, cond, eqb}
+use Rattle.std.specs.Prelude.{ℕ, ◌≡◌, cond, eqb, Result, Ok, Err}
 use Rattle.model.specs.Command.{Command, Roomed}
 use Rattle.model.specs.Transcript.{command}
-use Rattle.model.specs.Refusals.{plan_refusal}
+use Rattle.model.specs.declared.Refusal.{Refusal}
 use Rattle.record.specs.Step.{told_check}
 use Rattle.record.specs.declared.Checked.{Checked}
 use Rattle.text.specs.declared.Printed.{Printed}
-use Rattle.text.specs.Lines.{of_room}
+use Rattle.text.specs.Lines.{accepted_told, of_room}
 use Rattle.decode.specs.Asked.{asked}
 use Rattle.decode.specs.declared.Request.{Request}
 use Rattle.value.specs.Handed.{command_answered, room_value}
 use Rattle.value.specs.declared.Net.{Net}
 use Rattle.value.specs.declared.Commanded.{Commanded}
-use Rattle.value.specs.declared.NetRoom.{NetRoom}
 
 -- 18 for a fault
-abbrev pub MakeRefusal : Checked → ℕ → Type 0
-MakeRefusal checked r = r ≡ cond (eqb (told_check checked) 0) 0 plan_refusal
+abbrev pub MakeRefusal : Checked → Result Unit Refusal → Type 0
+MakeRefusal checked r = r ≡ cond (eqb (told_check checked) 0) (Ok tt) (Err Refusal.BrokenPlan)
 
 -- a request for a command, and what the command is answered
 abbrev pub CommandAsked : Request → Type 0
@@ -25,5 +24,5 @@ CommandAsked request = (c : Command) × (asked request ≡ command c)
 abbrev pub CommandTold : Net → Request → Commanded → Type 0
 CommandTold net request r = (c : Command) → asked request ≡ command c → r ≡ command_answered net c
 
-abbrev pub RoomTold : Printed → NetRoom → Type 0
-RoomTold what r = (a : Roomed) → what ≡ of_room a → r ≡ room_value a
+abbrev pub RoomTold : Printed → ℕ → Type 0
+RoomTold said r = (a : Roomed) → accepted_told said ≡ of_room a → Ok r ≡ room_value a

@@ -4,48 +4,37 @@
 
 ghost use Rattle.std.specs.Prelude.{◌≡◌, []};
 ghost use Rattle.model.specs.Command.{start, call, return, take_back};
-ghost use Rattle.value.specs.View.{broken};
+ghost use Rattle.value.specs.View.{broken, rule_told};
 ghost use Rattle.value.specs.Handed.{value_of, command_answered, ask_answered, room_answered, make_answered};
 ghost use Rattle.net.specs.Public.{MakeRefusal, CommandAsked, CommandTold, RoomTold};
 
 use decode::Request;
 use ids::{Level, Node, Site, Ticket};
-use model::Plan;
+use model::{Plan, Refusal};
 use record::Checked;
+use table::Table;
 use text::Printed;
-use value::{AskAnswer, Call, CommandAnswer, Commanded, MadeNet, Net, NetRoom};
-
-// A net that breaks a rule.
-const BROKEN: u8 = 19;
-
-// A plan that no net is made from.
-const NO_PLAN: u8 = 18;
+use value::{Commanded, MadeNet, Net, NetRule, Standing};
 
 // The net of a plan with no open call.
 fn empty(plan: Plan) -> Net
     ensures { result ≡ value_of plan [] }
 {
-    let spare = Call {
-        ticket: Ticket(0),
-        parent: Ticket(0),
-        node: Node(0),
-        active: false,
-    };
     Net {
         plan,
-        calls: [spare; Ticket::OPEN],
+        calls: apart::join(&Table::empty()),
         used: 0,
         counts: [0; Site::COUNT * Site::THREADS],
     }
 }
 
-// 18 for a fault, else 0.
-fn refusal(checked: Checked) -> u8
+// 18 for a fault.
+fn refusal(checked: Checked) -> Result<(), Refusal>
     ensures { MakeRefusal checked result }
 {
     match checked {
-        Checked::Passed => 0,
-        Checked::Refused(_) => NO_PLAN,
+        Checked::Passed => Ok(()),
+        Checked::Refused(_) => Err(Refusal::BrokenPlan),
     }
 }
 
@@ -57,31 +46,18 @@ pub fn make(plan: Plan) -> MadeNet
     let checked = audited.checked;
     let kept = audited.plan;
     MadeNet {
-        refusal: refusal(checked),
+        answer: refusal(checked),
         net: empty(kept),
     }
 }
 
-// The number of the first net rule that is broken, by its place in document 01, or 0.
-pub fn check(net: Net) -> u8
-    ensures { result ≡ broken net }
+// The first net rule that is broken.
+pub fn check(net: Net) -> Result<(), NetRule>
+    ensures { rule_told result ≡ broken net }
 {
-    let mut tickets = [0; Ticket::OPEN];
-    let mut parents = [0; Ticket::OPEN];
-    let mut keys = [0; Ticket::OPEN];
-    let mut nodes = [0; Ticket::OPEN];
-    let mut rooms = [255; Site::COUNT * Site::THREADS];
-    let plan = net.plan;
-    let edges = links::call_rows(plan).rows;
-    entry::prepare(
-        net,
-        &mut tickets,
-        &mut parents,
-        &mut keys,
-        &mut nodes,
-        &mut rooms,
-        &edges,
-    )
+    let edges = links::call_rows(net.plan);
+    entry::prepare(&net, &edges)?;
+    Ok(())
 }
 
 // A start, a call, a return or a taking back, by its request.
@@ -89,46 +65,15 @@ fn command(net: Net, request: Request) -> Commanded
     requires { CommandAsked request }
     ensures { CommandTold net request result }
 {
-    let mut tickets = [0; Ticket::OPEN];
-    let mut parents = [0; Ticket::OPEN];
-    let mut keys = [0; Ticket::OPEN];
-    let mut nodes = [0; Ticket::OPEN];
-    let mut rooms = [255; Site::COUNT * Site::THREADS];
-    let plan = net.plan;
-    let edges = links::call_rows(plan).rows;
-    let broken = entry::prepare(
-        net,
-        &mut tickets,
-        &mut parents,
-        &mut keys,
-        &mut nodes,
-        &mut rooms,
-        &edges,
-    );
-    if broken != 0 {
+    let edges = links::call_rows(net.plan);
+    let Ok(mut running) = entry::prepare(&net, &edges) else {
         return Commanded {
-            answer: CommandAnswer::Refused(BROKEN),
+            answer: Err(Refusal::BrokenNet),
             net,
         };
-    }
-    let threads = plan.threads;
-    let places = plan.places;
-    let levels = plan.levels;
-    let done = turns::answer(
-        &mut tickets,
-        &mut parents,
-        &mut keys,
-        &mut nodes,
-        &mut rooms,
-        net.used,
-        &threads,
-        &places,
-        &levels,
-        &edges,
-        request,
-    );
-    let what = done.what;
-    pack::handed(net, what, &tickets, &parents, &keys, &nodes, done.used)
+    };
+    let done = turns::answer(&mut running, &net.plan, &edges, request);
+    pack::handed(net, done, &running.table)
 }
 
 // A start: 20, 21, 22, 26.
@@ -160,59 +105,37 @@ pub fn take_back(net: Net, ticket: Ticket) -> Commanded
 }
 
 // Whether a ticket's call is active, waits or is not open.
-pub fn ask(net: Net, ticket: Ticket) -> AskAnswer
+pub fn ask(net: Net, ticket: Ticket) -> Result<Standing, Refusal>
     ensures { result ≡ ask_answered net ticket.0 }
 {
-    if check(net) != 0 {
-        return AskAnswer::Refused(BROKEN);
+    check(net)?;
+    let Some(at) = lookup::place(net, ticket) else {
+        return Ok(Standing::NotOpen);
+    };
+    if net.calls[at].active {
+        return Ok(Standing::Active);
     }
-    let at = lookup::place(net, ticket);
-    if at >= net.used {
-        return AskAnswer::NotOpen;
-    }
-    let calls = net.calls;
-    let found = calls[at];
-    if found.active {
-        return AskAnswer::Active;
-    }
-    AskAnswer::Waiting
+    Ok(Standing::Waiting)
 }
 
-// A room, by what is printed of it.
-fn room_of(what: Printed) -> NetRoom
-    ensures { RoomTold what result }
+// A room, by what is said of it.
+fn room_of(said: Printed) -> u16
+    ensures { RoomTold said result }
 {
-    match what {
-        Printed::Letter(_) => NetRoom::Room(0), // no room is told so
-        Printed::Number(room) => NetRoom::Room(room),
-        Printed::Refused(number) => NetRoom::Refused(number),
-        Printed::Waits(_) => NetRoom::Room(0), // nor so
+    match said {
+        Printed::Number(room) => room,
+        // No room is said so.
+        Printed::Active | Printed::Waits(_) => 0,
+        Printed::Running | Printed::Waiting | Printed::Absent => 0,
     }
 }
 
 // The room at a level of a site, or 30.
-pub fn room(net: Net, site: Site, level: Level) -> NetRoom
+pub fn room(net: Net, site: Site, level: Level) -> Result<u16, Refusal>
     ensures { result ≡ room_answered net site.0 level.0 }
 {
-    let mut tickets = [0; Ticket::OPEN];
-    let mut parents = [0; Ticket::OPEN];
-    let mut keys = [0; Ticket::OPEN];
-    let mut nodes = [0; Ticket::OPEN];
-    let mut rooms = [255; Site::COUNT * Site::THREADS];
-    let plan = net.plan;
-    let edges = links::call_rows(plan).rows;
-    let broken = entry::prepare(
-        net,
-        &mut tickets,
-        &mut parents,
-        &mut keys,
-        &mut nodes,
-        &mut rooms,
-        &edges,
-    );
-    if broken != 0 {
-        return NetRoom::Refused(BROKEN);
-    }
-    let threads = plan.threads;
-    room_of(steps::room(&rooms, &threads, site.0, level.0))
+    let edges = links::call_rows(net.plan);
+    let running = entry::prepare(&net, &edges)?;
+    let said = steps::room(&running.rooms, &net.plan, site.0, level.0)?;
+    Ok(room_of(said))
 }

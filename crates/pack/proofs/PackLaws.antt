@@ -4,11 +4,12 @@ use Prim.Native.Nat.{ℕ, ◌+◌, ◌*◌, ◌/◌, ◌%◌, ◌≤◌, ◌<◌
 use native.Mathlib.Omega.{arith}
 use mathlib.Core.Path.{◌≡◌, sym, ap, ◌∙◌}
 use mathlib.Core.Logic.{⊎_elim}
-use mathlib.Core.Bool.{Bool}
 use mathlib.Core.List.{List}
 use lib.ListN.{get_or}
+use Rattle.std.specs.Prelude.{Option, Some, None}
+use Rattle.std.specs.Option.{unwrap_or}
 use Rattle.ids.specs.Limits.{sites, most_threads}
-use Rattle.lists.proofs.CountLaws.{lt_or_ge, not_false_so}
+use Rattle.lists.proofs.CountLaws.{lt_or_ge}
 use Rattle.lists.proofs.TabledLaws.{tabled-is}
 use Rattle.model.specs.Site.{A}
 use Rattle.model.specs.Plan.{threads}
@@ -23,12 +24,12 @@ use Rattle.value.specs.Handed.{table_of, count_at, counts_table, value_of}
 use Rattle.value.specs.declared.Call.{Call as CallValue}
 use Rattle.value.specs.declared.Net.{Net}
 use Rattle.value.proofs.NodeLaws.{node_inside, site_there, level_there}
+use Rattle.table.specs.declared.Table.{Table}
 use Rattle.tally.specs.Tally.{CountsTell, CountTold, Counting}
 use Rattle.pack.specs.Packed.{Packing}
 
-module _ {plan : Plan} (sized : Sized plan) {cs : List Call} {tickets parents keys nodes : List ℕ} {used : ℕ}
-    (ok : Packing plan cs tickets parents keys nodes used) where
-  pub counting : Counting (records_of plan) cs keys nodes used plan.places plan.levels
+module _ {plan : Plan} (sized : Sized plan) {cs : List Call} {t : Table} (ok : Packing plan cs t) where
+  pub counting : Counting (records_of plan) cs t.keys t.nodes t.used plan.places plan.levels
   counting =
       record {
         placing =
@@ -65,22 +66,23 @@ module _ {plan : Plan} (sized : Sized plan) {cs : List Call} {tickets parents ke
       omega (arith, A-step a k, A_down a 0 k (omega arith), ap (A a) none, within (records_of plan) ok.firm.pass cs ok.firm.known s))
       (lt_or_ge 0 (threads (records_of plan) s))
 
-  counted : {numbers : List ℕ} (r : Bool) → CountTold (records_of plan) cs numbers r → CountsTell (records_of plan) cs numbers
-  counted r h =
-      h.0 (not_false_so r (λ e. let over = h.1 e in absurd (omega (arith, over.many, few_active over.site over.level))))
+  -- so that every count was held by its byte
+  counted : (r : Option (List ℕ)) (spare : List ℕ) → CountTold (records_of plan) cs r → CountsTell (records_of plan) cs (unwrap_or r spare)
+  counted (Some numbers) spare told = told
+  counted None spare over = absurd (omega (arith, over.many, few_active over.site over.level))
 
   counts-told : {numbers : List ℕ} → CountsTell (records_of plan) cs numbers → numbers ≡ counts_table (records_of plan) cs
   unfolding counts_table count_at
-  counts-told {numbers} t =
-      tabled-is (sites * most_threads) (count_at (records_of plan) cs) numbers 0 t.whole
+  counts-told {numbers} told =
+      tabled-is (sites * most_threads) (count_at (records_of plan) cs) numbers 0 told.whole
       (λ i h.
       let there : most_threads * (i / most_threads) + i % most_threads ≡ i = omega arith in
-      ap (λ (j : ℕ). get_or numbers j 0) (sym there) ∙ t.each (i / most_threads) (i % most_threads) (omega arith) (omega arith))
+      ap (λ (j : ℕ). get_or numbers j 0) (sym there) ∙ told.each (i / most_threads) (i % most_threads) (omega arith) (omega arith))
 
-  pub packed_is : {numbers : List ℕ} {calls : List CallValue} (r : Bool) → CountTold (records_of plan) cs numbers r → calls ≡ table_of cs
-      → ◌≡◌ {A = Net} (record { plan = plan; calls = calls; used = used; counts = numbers }) (value_of plan cs)
+  pub packed_is : {calls : List CallValue} (r : Option (List ℕ)) (spare : List ℕ) → CountTold (records_of plan) cs r → calls ≡ table_of cs
+      → ◌≡◌ {A = Net} (record { plan = plan; calls = calls; used = t.used; counts = unwrap_or r spare }) (value_of plan cs)
   unfolding value_of
-  packed_is {numbers} {calls} r h e =
-      let f = counts-told (counted r h) in
+  packed_is {calls} r spare h e =
+      let f = counts-told (counted r spare h) in
       let u = ok.joining.count in
       cc

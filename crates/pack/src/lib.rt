@@ -1,31 +1,22 @@
-// The net that is handed back, put together from the arrays of a run. An inner crate: the library's own crates alone call it.
+// The net that is handed back, put together from the table of a run. An inner crate: the library's own crates alone call it.
 #![tactic(auto)]
 
 ghost use Rattle.pack.specs.Packed.{Packable, Packs, AnswerTold, Handable, Hands};
 
 use ids::{Level, Site, Ticket};
-use model::Plan;
+use model::{Plan, Refusal};
+use table::Table;
 use text::Printed;
 use value::{CommandAnswer, Commanded, Net};
 
-// The one value of the calls that the arrays hold, over a plan.
-pub fn packed<'a>(
-    plan: Plan,
-    tickets: &'a [u16],
-    parents: &'a [u16],
-    keys: &'a [u16],
-    nodes: &'a [u8],
-    used: usize,
-) -> Net
-    requires { Packable plan tickets.now parents.now keys.now nodes.now used }
-    ensures { Packs plan tickets.now parents.now keys.now nodes.now used result }
+// The one value of the calls that a table holds, over a plan. No site of theirs has more active calls than a byte counts.
+pub fn packed(plan: Plan, table: &Table) -> Net
+    requires { Packable plan table.now }
+    ensures { Packs plan table.now result }
 {
-    let places = plan.places;
-    let levels = plan.levels;
-    let mut counts = [0; Site::COUNT * Site::THREADS];
-    tally::count(keys, nodes, used, &places, &levels, &mut counts);
-    let table = apart::join(tickets, parents, keys, nodes, used);
-    let calls = table.calls;
+    let counts = tally::count(table, &plan).unwrap_or([0; Site::COUNT * Site::THREADS]);
+    let calls = apart::join(table);
+    let used = table.used;
     Net {
         plan,
         calls,
@@ -34,37 +25,32 @@ pub fn packed<'a>(
     }
 }
 
-// A command's answer, by what is printed of it. The one letter is that of an active call.
-fn answer_of(what: Printed) -> CommandAnswer
-    ensures { AnswerTold what result }
+// A command's answer, by what is said of it.
+fn answer_of(said: Printed) -> CommandAnswer
+    ensures { AnswerTold said result }
 {
-    match what {
-        Printed::Letter(_) => CommandAnswer::Active,
+    match said {
         Printed::Number(ticket) => CommandAnswer::Ended(Ticket(ticket)),
-        Printed::Refused(number) => CommandAnswer::Refused(number),
         Printed::Waits(level) => CommandAnswer::Waiting(Level(level)),
+        Printed::Active => CommandAnswer::Active,
+        // Questions alone are answered so.
+        Printed::Running | Printed::Waiting | Printed::Absent => CommandAnswer::Active,
     }
 }
 
-// What a command hands back: the net that came in where it was refused, and else that which the arrays hold.
-pub fn handed<'a>(
-    net: Net,
-    what: Printed,
-    tickets: &'a [u16],
-    parents: &'a [u16],
-    keys: &'a [u16],
-    nodes: &'a [u8],
-    used: usize,
-) -> Commanded
-    requires { Handable net what tickets.now parents.now keys.now nodes.now used }
-    ensures { Hands net what tickets.now parents.now keys.now nodes.now used result }
+// What a command hands back: the net that came in where it was refused, and else that of the table.
+pub fn handed(net: Net, done: Result<Printed, Refusal>, table: &Table) -> Commanded
+    requires { Handable net done table.now }
+    ensures { Hands net done table.now result }
 {
-    let answer = answer_of(what);
-    if let Printed::Refused(_) = what {
-        return Commanded { answer, net };
-    }
-    Commanded {
-        answer,
-        net: packed(net.plan, tickets, parents, keys, nodes, used),
+    match done {
+        Err(why) => Commanded {
+            answer: Err(why),
+            net,
+        },
+        Ok(said) => Commanded {
+            answer: Ok(answer_of(said)),
+            net: packed(net.plan, table),
+        },
     }
 }

@@ -83,8 +83,8 @@ module _ {rs : List Record} {cs : List Call} {tickets keys open-nodes : List ℕ
     parent_waits lit =
         sym (kept_is ∙ ap (λ (b : Bool). b && has_edge rs p.who.node node) (key_waits rs p.who (λ e. lit (p.key_told ∙ e))))
 
-    pub row_inside : get_or open-nodes at 0 < length edges
-    row_inside = omega (arith, p.node_told, p.node_small, ok.seen.edging.whole)
+    pub row_inside : get_or open-nodes at 0 < nodes
+    row_inside = omega (arith, p.node_told, p.node_small)
 
     pub parent_edge : get_or keys at 0 ≡ 0 → (r : Bool) → r ≡ member (get_or edges (get_or open-nodes at 0) 0) node → r ≡ Kept rs cs parent node
     unfolding linked

@@ -7,6 +7,8 @@ use mathlib.Core.Bool.{Bool, true, false, not, cond, ◌&&◌}
 use mathlib.Core.List.{List}
 use lib.ListN.{get_or}
 use lib.Dec.{eqb}
+use Rattle.std.specs.Prelude.{Option, Some, None}
+use Rattle.std.specs.Option.{is_some}
 use borrow.Author.Tests.{eqb-true, eq-eqb}
 use Rattle.ids.specs.Limits.{sites, most_threads, most_open}
 use Rattle.lists.specs.Count.{first}
@@ -19,7 +21,7 @@ use Rattle.model.specs.Net.{Call, site_of, is_on, waits_on, counts, admissible, 
 use Rattle.model.specs.NetRules.{could_go}
 use Rattle.model.proofs.PlaceLaws.{threads_most, site_small, level_below-threads}
 use Rattle.rooms.specs.Rooms.{no_room, Limited}
-use Rattle.table.specs.Places.{between, Table}
+use Rattle.table.specs.Places.{between, Padded, Found}
 use Rattle.moves.proofs.RoomLaws.{limited, rooms_limit}
 use Rattle.moves.proofs.TableLaws.{tells_table}
 use Rattle.moves.proofs.WakeLaws.{waiter_is}
@@ -46,7 +48,7 @@ wakes_could rs cs s c e =
     (and_right (eqb (site_of rs c.node) s && not c.active) (admissible rs cs c.node) e)
 
 module _ {rs : List Record} {cs : List Call} {keys rooms : List ℕ} {used : ℕ} {most-of : List ℕ} (ok : SettledSeen rs cs keys rooms used most-of) where
-  pub keys_table : Table keys used
+  pub keys_table : Padded keys used
   keys_table = tells_table ok.of_keys ok.count ok.firm.few
 
   module _ (s : ℕ) (inside : s < sites) where
@@ -72,7 +74,7 @@ module _ {rs : List Record} {cs : List Call} {keys rooms : List ℕ} {used : ℕ
             ∙ ap (λ (l : ℕ). first most_open (between keys (most_threads * s) (most_threads * s + l))) its-limit
             ∙ waiter_is rs cs ok.firm ok.of_keys s
 
-        pub nobody-there : at ≡ most_open → any (may_wake rs cs s) cs ≡ false
+        nobody-there : at ≡ most_open → any (may_wake rs cs s) cs ≡ false
         nobody-there e = not_true_false (any (may_wake rs cs s) cs) (λ q. absurd (below q))
           where
             below : any (may_wake rs cs s) cs ≡ true → ⊥
@@ -84,7 +86,7 @@ module _ {rs : List Record} {cs : List Call} {keys rooms : List ℕ} {used : ℕ
                 let z = found_some (may_wake rs cs s) cs w.0 w.1 w.2 in
                 absurd (omega (arith, place_inside (may_wake rs cs s) cs z.0 z.1, ok.firm.few))
 
-        pub somebody-there : (at ≡ most_open → ⊥) → false ≡ all (λ c. not (could_go rs cs c)) cs
+        somebody-there : (at ≡ most_open → ⊥) → false ≡ all (λ c. not (could_go rs cs c)) cs
         somebody-there ne = sym (not_true_false (all (λ c. not (could_go rs cs c)) cs) (λ q. go (true_or_false (any (may_wake rs cs s) cs)) q))
           where
             go : (any (may_wake rs cs s) cs ≡ true) ⊎ (any (may_wake rs cs s) cs ≡ false) → all (λ c. not (could_go rs cs c)) cs ≡ true → ⊥
@@ -93,6 +95,20 @@ module _ {rs : List Record} {cs : List Call} {keys rooms : List ℕ} {used : ℕ
                 let stays = all_at (λ c. not (could_go rs cs c)) cs q w.0 w.1 in
                 never_both (wakes_could rs cs s w.0 w.2) (denied (could_go rs cs w.0) (could_go rs cs w.0) refl stays)
             go (inr e) q = ne (waiter-at ∙ ap (λ (b : Bool). cond b (first_place (may_wake rs cs s) cs) most_open) e)
+
+      -- what the search answers
+
+      pub nobody-found : (base : ℕ) → base ≡ most_threads * s → (o : Option ℕ) → Found o (between keys base (base + limit)) → false ≡ is_some o
+          → any (may_wake rs cs s) cs ≡ false
+      nobody-found base here None found e =
+          nobody-there most_open (subst (λ (b : ℕ). most_open ≡ first most_open (between keys b (b + limit))) here found) refl
+      nobody-found base here (Some at) found e = absurd (never_both {b = true} refl (sym e))
+
+      pub somebody-found : (base : ℕ) → base ≡ most_threads * s → (o : Option ℕ) → Found o (between keys base (base + limit)) → true ≡ is_some o
+          → false ≡ all (λ c. not (could_go rs cs c)) cs
+      somebody-found base here None found e = absurd (never_both {b = true} refl e)
+      somebody-found base here (Some at) found e =
+          somebody-there at (subst (λ (b : ℕ). at ≡ first most_open (between keys b (b + limit))) here found.0) (λ q. absurd (omega (arith, found.1)))
 
     -- no call stands at a site without threads
     pub threadless : get_or most-of s 0 ≡ 0 → any (may_wake rs cs s) cs ≡ false

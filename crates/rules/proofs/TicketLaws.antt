@@ -7,16 +7,18 @@ use mathlib.Core.Bool.{Bool, true, false, not, cond, ◌&&◌}
 use mathlib.Core.List.{List}
 use lib.ListN.{length, get_or}
 use lib.Dec.{eqb}
-use borrow.Author.Tests.{eq-eqb, ne_eqb, eqb-true, le-leb, lt-leb}
+use Rattle.std.specs.Prelude.{Option, Some, None}
+use Rattle.std.specs.Option.{option_eq}
+use borrow.Author.Tests.{eq-eqb, ne_eqb, eqb-true, eqb-false, le-leb, lt-leb}
 use Rattle.ids.specs.Limits.{most_open, no_ticket}
 use Rattle.lists.specs.Count.{first}
 use Rattle.lists.specs.Pick.{count, any, tell, passes_at, first_place}
-use Rattle.lists.proofs.CountLaws.{lt_or_ge, never_both, and_both}
+use Rattle.lists.proofs.CountLaws.{lt_or_ge, never_both, and_both, denied, granted}
 use Rattle.lists.proofs.TellLaws.{passes-past}
 use Rattle.lists.proofs.PlaceLaws.{tell_there, passes_there, all-places, one_fails, any_there, at_most_one, more_than_one}
 use Rattle.model.specs.Net.{Call, has}
 use Rattle.model.specs.NetRules.{own_ticket, some_ticket, tickets_kept}
-use Rattle.table.specs.Places.{holds, Searched}
+use Rattle.table.specs.Places.{holds, Searched, Found}
 use Rattle.moves.specs.Held.{ticket_number}
 use Rattle.moves.proofs.KeyLaws.{nobody}
 use Rattle.moves.proofs.TableLaws.{tells_table, find_is}
@@ -54,33 +56,42 @@ module _ {cs : List Call} {tickets : List ℕ} {used : ℕ} (seen : TicketsSeen 
     passes_here = passes_there (has (get_or tickets i 0)) cs i nobody room ∙ eq-eqb (get_or cs i nobody).ticket (get_or tickets i 0) (sym ticket_is)
 
     -- the search finds the ticket, here or before
-    module _ (apart : get_or tickets i 0 ≡ no_ticket → ⊥) (at : ℕ) (found_at : at ≡ first most_open (holds tickets (get_or tickets i 0))) where
-      at_is : at ≡ first_place (has (get_or tickets i 0)) cs
-      at_is =
-          found_at ∙ find_is seen.of_tickets seen.counted.few (get_or tickets i 0) (omega (arith, apart))
-          ∙ ap (λ (b : Bool). cond b (first_place (has (get_or tickets i 0)) cs) most_open) there
-        where
-          there : any (has (get_or tickets i 0)) cs ≡ true
-          there = any_there (has (get_or tickets i 0)) cs i nobody room (sym (passes_there (has (get_or tickets i 0)) cs i nobody room) ∙ passes_here)
+    module _ (apart : get_or tickets i 0 ≡ no_ticket → ⊥) where
+      module _ (at : ℕ) (found_at : at ≡ first most_open (holds tickets (get_or tickets i 0))) where
+        at_is : at ≡ first_place (has (get_or tickets i 0)) cs
+        at_is =
+            found_at ∙ find_is seen.of_tickets seen.counted.few (get_or tickets i 0) (omega (arith, apart))
+            ∙ ap (λ (b : Bool). cond b (first_place (has (get_or tickets i 0)) cs) most_open) there
+          where
+            there : any (has (get_or tickets i 0)) cs ≡ true
+            there = any_there (has (get_or tickets i 0)) cs i nobody room (sym (passes_there (has (get_or tickets i 0)) cs i nobody room) ∙ passes_here)
 
-      pub twice-fails : (at ≡ i → ⊥) → false ≡ tickets_kept cs
-      unfolding tickets_kept
-      twice-fails elsewhere =
-          sym
-          (one_fails (λ c. own_ticket cs c && some_ticket c) cs i nobody room
-          (ap (λ (b : Bool). b && some_ticket (get_or cs i nobody))
-          (lt-leb (count (has (get_or cs i nobody).ticket) cs) 1
-          (subst (λ (t : ℕ). 2 ≤ count (has t) cs) ticket_is
-          (more_than_one (has (get_or tickets i 0)) cs i passes_here (λ e. elsewhere (at_is ∙ e)))))))
+        twice-fails : (at ≡ i → ⊥) → false ≡ tickets_kept cs
+        unfolding tickets_kept
+        twice-fails elsewhere =
+            sym
+            (one_fails (λ c. own_ticket cs c && some_ticket c) cs i nobody room
+            (ap (λ (b : Bool). b && some_ticket (get_or cs i nobody))
+            (lt-leb (count (has (get_or cs i nobody).ticket) cs) 1
+            (subst (λ (t : ℕ). 2 ≤ count (has t) cs) ticket_is
+            (more_than_one (has (get_or tickets i 0)) cs i passes_here (λ e. elsewhere (at_is ∙ e)))))))
 
-      pub own-more : OwnTo cs i → at ≡ i → OwnTo cs (i + 1)
-      own-more own here j l =
-          ⊎_elim (λ (p : j < i). own j p)
-          (λ (p : i ≤ j).
-          let same : i ≡ j = omega arith in
-          subst (λ (k : ℕ). (0 < tell ticket_number cs k) × (first_place (has (tell ticket_number cs k)) cs ≡ k)) same
-          (omega (arith, apart, seen.of_tickets.each i), ap (λ (t : ℕ). first_place (has t) cs) (sym (seen.of_tickets.each i)) ∙ sym at_is ∙ here))
-          (lt_or_ge j i)
+        own-more : OwnTo cs i → at ≡ i → OwnTo cs (i + 1)
+        own-more own here j l =
+            ⊎_elim (λ (p : j < i). own j p)
+            (λ (p : i ≤ j).
+            let same : i ≡ j = omega arith in
+            subst (λ (k : ℕ). (0 < tell ticket_number cs k) × (first_place (has (tell ticket_number cs k)) cs ≡ k)) same
+            (omega (arith, apart, seen.of_tickets.each i), ap (λ (t : ℕ). first_place (has t) cs) (sym (seen.of_tickets.each i)) ∙ sym at_is ∙ here))
+            (lt_or_ge j i)
+
+      pub other-fails : (o : Option ℕ) → Found o (holds tickets (get_or tickets i 0)) → true ≡ not (option_eq eqb o (Some i)) → false ≡ tickets_kept cs
+      other-fails None found e = twice-fails most_open found (λ q. absurd (omega (arith, seen.counted.count, seen.counted.few)))
+      other-fails (Some at) found e = twice-fails at found.0 (eqb-false at i (denied (eqb at i) (eqb at i) refl (sym e)))
+
+      pub own-found : OwnTo cs i → (o : Option ℕ) → Found o (holds tickets (get_or tickets i 0)) → false ≡ not (option_eq eqb o (Some i)) → OwnTo cs (i + 1)
+      own-found own None found e = absurd (never_both {b = false} e refl)
+      own-found own (Some at) found e = own-more at found.0 own (eqb-true at i (granted (eqb at i) (eqb at i) refl (sym e)))
 
   pub all_own : (i : ℕ) → used ≤ i → OwnTo cs i → true ≡ tickets_kept cs
   unfolding tickets_kept has

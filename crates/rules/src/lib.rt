@@ -1,21 +1,26 @@
-// The net rules, tested over the arrays of a run. An inner crate: the library's own crates alone call it.
+// The net rules, tested over a net as a run holds it. An inner crate: the library's own crates alone call it.
 #![tactic(auto)]
 
 ghost use Rattle.rules.specs.Rules.{TicketsTested, TicketsTest, NodesTested, NodesTest, ParentTested, ParentTest, ParentsTested, ParentsTest, SettledTested, SettledTest};
 
 use ids::{Node, Site, Ticket};
+use links::Rows;
+use model::Plan;
+use moves::Running;
+use rooms::Rooms;
+use table::Table;
 
 // Open tickets differ, and none is 0: each is found first at its own place.
-pub fn tickets_kept(tickets: &[u16], used: usize) -> bool
-    requires { TicketsTested tickets.now used }
-    ensures { TicketsTest tickets.now used result }
+pub fn tickets_kept(table: &Table) -> bool
+    requires { TicketsTested table.now.tickets table.now.used }
+    ensures { TicketsTest table.now.tickets table.now.used result }
 {
-    for i in 0..used {
-        let ticket = tickets[i];
+    for i in 0..table.used {
+        let ticket = table.tickets[i];
         if ticket == Ticket::NONE {
             return false;
         }
-        if table::find(tickets, used, ticket) != i {
+        if table.find(ticket) != Some(i) {
             return false;
         }
     }
@@ -23,58 +28,41 @@ pub fn tickets_kept(tickets: &[u16], used: usize) -> bool
 }
 
 // Every open call's node is in the plan.
-pub fn nodes_known<'a>(nodes: &'a [u8], used: usize, places: &'a [u8]) -> bool
-    requires { NodesTested nodes.now used places.now }
-    ensures { NodesTest nodes.now used places.now result }
+pub fn nodes_known(table: &Table, plan: &Plan) -> bool
+    requires { NodesTested table.now.nodes table.now.used plan.now.places }
+    ensures { NodesTest table.now.nodes table.now.used plan.now.places result }
 {
-    for i in 0..used {
-        if !record::has_node(places, Node(nodes[i])) {
-            return false;
-        }
-    }
-    true
+    table
+        .nodes
+        .iter()
+        .take(table.used)
+        .all(|node| record::has_node(&plan.places, Node(*node)))
 }
 
 // A parent is none, or is open and active, and the plan has the edge from its node.
-fn parent_kept<'a>(
-    tickets: &'a [u16],
-    keys: &'a [u16],
-    nodes: &'a [u8],
-    used: usize,
-    edges: &'a [u64],
-    parent: u16,
-    node: u8,
-) -> bool
-    requires { ParentTested tickets.now keys.now nodes.now used edges.now parent node }
-    ensures { ParentTest tickets.now keys.now nodes.now used edges.now parent node result }
+fn parent_kept(table: &Table, edges: &Rows, parent: u16, node: u8) -> bool
+    requires { ParentTested table.now.tickets table.now.keys table.now.nodes table.now.used edges.now.rows parent node }
+    ensures { ParentTest table.now.tickets table.now.keys table.now.nodes table.now.used edges.now.rows parent node result }
 {
     if parent == Ticket::NONE {
         return true;
     }
-    let at = table::find(tickets, used, parent);
-    if at == Ticket::OPEN {
+    let Some(at) = table.find(parent) else {
+        return false;
+    };
+    if table.keys[at] != 0 {
         return false;
     }
-    if keys[at] != 0 {
-        return false;
-    }
-    words::has(edges[nodes[at] as usize], node)
+    words::has(edges.rows[table.nodes[at] as usize], node)
 }
 
 // Every parent is open and active, with the edge in the plan.
-pub fn parents_kept<'a>(
-    tickets: &'a [u16],
-    parents: &'a [u16],
-    keys: &'a [u16],
-    nodes: &'a [u8],
-    used: usize,
-    edges: &'a [u64],
-) -> bool
-    requires { ParentsTested tickets.now parents.now keys.now nodes.now used edges.now }
-    ensures { ParentsTest tickets.now parents.now keys.now nodes.now used edges.now result }
+pub fn parents_kept(table: &Table, edges: &Rows) -> bool
+    requires { ParentsTested table.now.tickets table.now.parents table.now.keys table.now.nodes table.now.used edges.now.rows }
+    ensures { ParentsTest table.now.tickets table.now.parents table.now.keys table.now.nodes table.now.used edges.now.rows result }
 {
-    for i in 0..used {
-        if !parent_kept(tickets, keys, nodes, used, edges, parents[i], nodes[i]) {
+    for i in 0..table.used {
+        if !parent_kept(table, edges, table.parents[i], table.nodes[i]) {
             return false;
         }
     }
@@ -82,20 +70,20 @@ pub fn parents_kept<'a>(
 }
 
 // No waiting call may be admitted: no site has a waiter below its limit.
-pub fn settled<'a>(keys: &'a [u16], rooms: &'a [u8], used: usize, threads: &'a [u8]) -> bool
-    requires { SettledTested keys.now rooms.now used threads.now }
-    ensures { SettledTest keys.now rooms.now used threads.now result }
+pub fn settled(running: &Running, plan: &Plan) -> bool
+    requires { SettledTested running.now.table.keys running.now.rooms.left running.now.table.used plan.now.threads }
+    ensures { SettledTest running.now.table.keys running.now.rooms.left running.now.table.used plan.now.threads result }
 {
     for site in 0..Site::COUNT {
-        let most = threads[site];
+        let most = plan.threads[site];
         // Nobody waits at a site without threads.
         if most == 0 {
             continue;
         }
-        let base = Site::THREADS * site;
-        let limit = rooms::limit(rooms, base, most);
+        let base = Rooms::base(site as u8);
+        let limit = running.rooms.limit(site as u8, most);
         let top = base + limit as usize;
-        if table::waiter(keys, used, base as u16, top as u16) != Ticket::OPEN {
+        if running.table.waiter(base as u16, top as u16).is_some() {
             return false;
         }
     }

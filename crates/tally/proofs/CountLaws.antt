@@ -3,7 +3,7 @@ use Prim.Native.Nat.{ℕ, zero, suc, ◌+◌, ◌*◌, ◌≤◌, ◌<◌}
 use native.Mathlib.Omega.{arith}
 use native.Mathlib.Numerals.{add-one}
 use mathlib.Core.Path.{◌≡◌, refl, sym, ap, subst, ◌∙◌}
-use mathlib.Core.Bool.{Bool, true, false}
+use mathlib.Core.Bool.{Bool}
 use mathlib.Core.List.{List, [], ◌∷◌, ◌++◌}
 use lib.ListN.{length, get_or, take, replicate, length-replicate, get_or-replicate}
 use lib.Seq.{take-suc, take_all}
@@ -15,11 +15,7 @@ use Rattle.model.specs.Net.{Call, counts}
 use Rattle.model.proofs.CountsLaws.{of_level, counts_at}
 use Rattle.moves.specs.Held.{key_of, node_number}
 use Rattle.moves.proofs.KeyLaws.{nobody}
-use Rattle.tally.specs.Tally.{CountsTell, TooMany, Behind, CountTold, Counting, Zeroed}
-
-pub none_told : (rs : List Record) {numbers : List ℕ} → Zeroed numbers → CountsTell rs [] numbers
-unfolding counts
-none_told rs z = record { whole = z.whole; each = λ s k hs hk. z.zeros (most_threads * s + k) ∙ sym (get_or-replicate most_threads k 0 0 hk) }
+use Rattle.tally.specs.Tally.{CountsTell, TooMany, Behind, Counting}
 
 zero_at : (n i : ℕ) → ◌≡◌ {A = ℕ} (get_or (replicate n 0) i 0) 0
 zero_at zero i = refl
@@ -27,8 +23,13 @@ zero_at (suc n) zero = refl
 zero_at (suc n) (suc i) = zero_at n i
 
 -- an array of zeros
-pub zeros_fresh : Zeroed (replicate (sites * most_threads) 0)
-zeros_fresh = record { whole = length-replicate {A = ℕ} (sites * most_threads) 0; zeros = zero_at (sites * most_threads) }
+pub none_told : (rs : List Record) → CountsTell rs [] (replicate (sites * most_threads) 0)
+unfolding counts
+none_told rs =
+    record {
+      whole = length-replicate {A = ℕ} (sites * most_threads) 0;
+      each = λ s k hs hk. zero_at (sites * most_threads) (most_threads * s + k) ∙ sym (get_or-replicate most_threads k 0 0 hk);
+    }
 
 count-take : (f : Call → Bool) (cs : List Call) (n : ℕ) → count f (take n cs) ≤ count f cs
 unfolding count
@@ -56,14 +57,12 @@ module _ {rs : List Record} {cs : List Call} {keys open-nodes : List ℕ} {used 
         known = ok.known (get_or cs i nobody) (member_there cs i nobody room);
       }
 
-  pub counted_on : {numbers : List ℕ} (r : Bool) → r ≡ true → CountTold rs (take i cs ++ (get_or cs i nobody ∷ [])) numbers r
-      → CountsTell rs (take (i + 1) cs) numbers
-  counted_on {numbers} r e h = subst (λ (ds : List Call). CountsTell rs ds numbers) (sym (more_taken cs i room)) (h.0 e)
+  pub counted_on : {numbers : List ℕ} → CountsTell rs (take i cs ++ (get_or cs i nobody ∷ [])) numbers → CountsTell rs (take (i + 1) cs) numbers
+  counted_on {numbers} h = subst (λ (ds : List Call). CountsTell rs ds numbers) (sym (more_taken cs i room)) h
 
   -- too many of some are too many of all
-  pub counted_over : {numbers : List ℕ} (r : Bool) → r ≡ false → CountTold rs (take i cs ++ (get_or cs i nobody ∷ [])) numbers r → TooMany rs cs
-  counted_over r e h =
-      let over = h.1 e in
+  pub counted_over : TooMany rs (take i cs ++ (get_or cs i nobody ∷ [])) → TooMany rs cs
+  counted_over over =
       let pass = ok.placing.pass in
       record {
         site = over.site;

@@ -2,16 +2,15 @@
 use Prim.Native.Nat.{ℕ, ◌+◌, ◌*◌, ◌/◌, ◌%◌, ◌≤◌, ◌<◌}
 use native.Mathlib.Omega.{arith}
 use mathlib.Core.Path.{◌≡◌, refl, sym, ap, subst, ◌∙◌}
-use mathlib.Core.Bool.{Bool, true, false, not}
-use mathlib.Core.List.{List}
+use mathlib.Core.Bool.{Bool, true, false, ◌&&◌}
+use mathlib.Core.List.{List, [], ◌∷◌}
 use lib.ListN.{length, get_or}
 use lib.Dec.{eqb}
-use borrow.Author.Tests.{eqb-true, eq-eqb}
+use lib.Pointwise.{pointwise}
+use Rattle.std.proofs.lemmas.Grind.{same_number_lists}
 use Rattle.ids.specs.Limits.{sites, most_threads}
-use Rattle.lists.specs.Count.{some}
 use Rattle.lists.specs.Tabled.{tabled}
-use Rattle.lists.proofs.CountLaws.{never_both, not_true_false, not_false_true, denied, every_at, every-all}
-use Rattle.lists.proofs.BlockLaws.{some_none, none_some}
+use Rattle.lists.proofs.CountLaws.{never_both, not_true_false, every_at, every-all}
 use Rattle.lists.proofs.TabledLaws.{get_or-tabled, tabled-is}
 use Rattle.model.specs.Plan.{Record}
 use Rattle.model.specs.Net.{Call, counts}
@@ -19,7 +18,14 @@ use Rattle.model.specs.NetRules.{same_list, book_kept}
 use Rattle.model.proofs.NetRuleLaws.{same_list-is, list_same}
 use Rattle.model.proofs.CountsLaws.{counts-length}
 use Rattle.value.specs.View.{row_of}
-use Rattle.tally.specs.Tally.{CountsTell, TooMany, differ}
+use Rattle.tally.specs.Tally.{CountsTell, TooMany}
+
+-- the comparison of two lists is the definitions' test
+same_tests : (xs ys : List ℕ) → pointwise eqb xs ys ≡ same_list xs ys
+same_tests [] [] = refl
+same_tests [] (y ∷ ys) = refl
+same_tests (x ∷ xs) [] = refl
+same_tests (x ∷ xs) (y ∷ ys) = ap (λ (b : Bool). eqb x y && b) (same_tests xs ys)
 
 module _ (rs : List Record) (cs : List Call) (numbers : List ℕ) where
   abbrev kept : Bool
@@ -54,34 +60,27 @@ module _ (rs : List Record) (cs : List Call) (numbers : List ℕ) where
       (arith, over.many, bytes (most_threads * over.site + over.level), kept_at e over.site over.level over.site_inside over.level_inside))))
 
   module _ (whole : length numbers ≡ sites * most_threads) {others : List ℕ} (told : CountsTell rs cs others) where
-    abbrev differs : Bool
-    differs = some (sites * most_threads) (differ numbers others)
+    told_too : same_list numbers others ≡ true → CountsTell rs cs numbers
+    told_too e = subst (CountsTell rs cs) (sym (same_list-is numbers others e)) told
 
-    place_same : differs ≡ false → (i : ℕ) → i < sites * most_threads → get_or numbers i 0 ≡ get_or others i 0
-    unfolding differ
-    place_same e i h =
-        eqb-true (get_or numbers i 0) (get_or others i 0)
-        (not_false_true (eqb (get_or numbers i 0) (get_or others i 0)) (some_none (sites * most_threads) (differ numbers others) e i h))
-
-    told_too : differs ≡ false → CountsTell rs cs numbers
-    told_too e = record { whole = whole; each = λ s k hs hk. place_same e (most_threads * s + k) (omega arith) ∙ told.each s k hs hk }
-
-    same_differs : kept ≡ true → differs ≡ false
-    unfolding differ
-    same_differs e =
-        none_some (sites * most_threads) (differ numbers others)
+    -- an array of the counts is the array that was counted
+    kept_same : kept ≡ true → numbers ≡ others
+    kept_same e =
+        same_number_lists numbers others (whole ∙ sym told.whole)
         (λ i h.
         let s = i / most_threads in
         let k = i % most_threads in
         let there : most_threads * s + k ≡ i = omega arith in
-        ap not
-        (eq-eqb (get_or numbers i 0) (get_or others i 0)
-        (subst (λ (j : ℕ). get_or numbers j 0 ≡ get_or others j 0) there
-        (kept_at e s k (omega arith) (omega arith) ∙ sym (told.each s k (omega arith) (omega arith))))))
+        subst (λ (j : ℕ). get_or numbers j 0 ≡ get_or others j 0) there
+        (kept_at e s k (omega (arith, whole)) (omega arith) ∙ sym (told.each s k (omega (arith, whole)) (omega arith))))
 
-    pub kept_is : (r : Bool) → r ≡ not differs → (r ≡ kept) × (r ≡ true → CountsTell rs cs numbers)
-    kept_is r e = (go differs refl, λ q. told_too (denied differs differs refl (sym e ∙ q)))
+    pub kept_is : (r : Bool) → r ≡ pointwise eqb numbers others → (r ≡ kept) × (r ≡ true → CountsTell rs cs numbers)
+    kept_is r e = (is ∙ go (same_list numbers others) refl, λ q. told_too (sym is ∙ q))
       where
-        go : (d : Bool) → differs ≡ d → r ≡ kept
-        go true q = e ∙ ap not q ∙ sym (not_true_false kept (λ p. never_both q (same_differs p)))
-        go false q = e ∙ ap not q ∙ sym (at_kept (λ s k hs hk. (told_too q).each s k hs hk))
+        is : r ≡ same_list numbers others
+        is = e ∙ same_tests numbers others
+
+        go : (b : Bool) → same_list numbers others ≡ b → b ≡ kept
+        go true q = sym (at_kept (λ s k hs hk. (told_too q).each s k hs hk))
+        go false q =
+            sym (not_true_false kept (λ p. never_both (subst (λ (l : List ℕ). same_list numbers l ≡ true) (kept_same p) (list_same numbers)) q))

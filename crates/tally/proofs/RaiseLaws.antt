@@ -18,7 +18,7 @@ use Rattle.model.specs.Net.{Call, site_of, level_of, is_on, active_on}
 use Rattle.model.proofs.PlaceLaws.{site_small, level_small}
 use Rattle.model.proofs.CountsLaws.{of_level, counts_at}
 use Rattle.moves.proofs.KeyLaws.{key_active, key_waits}
-use Rattle.tally.specs.Tally.{CountsTell, Behind, CountTold}
+use Rattle.tally.specs.Tally.{CountsTell, TooMany, Behind}
 
 -- who is counted at a level of a site
 counted_there : (rs : List Record) (c : Call) → c.active ≡ true → of_level rs (site_of rs c.node) (level_of rs c.node) c ≡ true
@@ -97,63 +97,60 @@ module _ {rs : List Record} {cs : List Call} {c : Call} {key node : ℕ} {places
             );
       }
 
-  pub raised_not : (key ≡ 0 → ⊥) → CountTold rs (cs ++ (c ∷ [])) old true
+  pub raised_not : (key ≡ 0 → ⊥) → CountsTell rs (cs ++ (c ∷ [])) old
   raised_not ne =
       let waits = key_waits rs c (λ e. ne (b.key_is ∙ e)) in
-      ((λ _. more_told old refl (λ s k hs hk. omega (arith, ap one (not_counted rs s k c waits)))), λ e. absurd (never_both {b = true} refl e))
+      more_told old refl (λ s k hs hk. omega (arith, ap one (not_counted rs s k c waits)))
 
-  module _ (zero-key : key ≡ 0) (at v : ℕ) (at_is : at ≡ most_threads * get_or places node 0 + get_or levels node 0) (v-is : v ≡ get_or old at 0) where
+  module _ (zero-key : key ≡ 0) (at : ℕ) (at_is : at ≡ most_threads * get_or places node 0 + get_or levels node 0) where
     active : c.active ≡ true
     active = key_active rs c (sym b.key_is ∙ zero-key)
 
-    abbrev new : List ℕ
-    new = set old at (v + 1)
+    module _ (v : ℕ) (v-is : v ≡ get_or old at 0 + 1) where
+      abbrev new : List ℕ
+      new = set old at v
 
-    new_at : (s k : ℕ) → s < sites → k < most_threads
-        → get_or new (most_threads * s + k) 0 ≡ get_or old (most_threads * s + k) 0 + one (of_level rs s k c)
-    new_at s k hs hk = ⊎_elim here elsewhere (true_or_false (of_level rs s k c))
-      where
-        here : of_level rs s k c ≡ true → get_or new (most_threads * s + k) 0 ≡ get_or old (most_threads * s + k) 0 + one (of_level rs s k c)
-        here e =
-            let who = counted_where rs s k c e in
-            let there : at ≡ most_threads * s + k = omega (arith, place_at, at_is, who.0, who.1) in
-            subst (λ (n : ℕ). get_or new n 0 ≡ get_or old n 0 + one (of_level rs s k c)) there
-            (get_or-set_same old at (v + 1) 0 (omega (arith, at_is, inside)) ∙ omega (arith, v-is, ap one e))
+      new_at : (s k : ℕ) → s < sites → k < most_threads
+          → get_or new (most_threads * s + k) 0 ≡ get_or old (most_threads * s + k) 0 + one (of_level rs s k c)
+      new_at s k hs hk = ⊎_elim here elsewhere (true_or_false (of_level rs s k c))
+        where
+          here : of_level rs s k c ≡ true → get_or new (most_threads * s + k) 0 ≡ get_or old (most_threads * s + k) 0 + one (of_level rs s k c)
+          here e =
+              let who = counted_where rs s k c e in
+              let there : at ≡ most_threads * s + k = omega (arith, place_at, at_is, who.0, who.1) in
+              subst (λ (n : ℕ). get_or new n 0 ≡ get_or old n 0 + one (of_level rs s k c)) there
+              (get_or-set_same old at v 0 (omega (arith, at_is, inside)) ∙ omega (arith, v-is, ap one e))
 
-        elsewhere : of_level rs s k c ≡ false → get_or new (most_threads * s + k) 0 ≡ get_or old (most_threads * s + k) 0 + one (of_level rs s k c)
-        elsewhere e =
-            get_or-set_other old at (most_threads * s + k) (v + 1) 0
-            (λ q.
-            let same-site : site ≡ s = omega (arith, place_at, at_is, level_in) in
-            let same-level : level ≡ k = omega (arith, place_at, at_is, level_in) in
-            never_both
-            (subst (λ (n : ℕ). of_level rs s n c ≡ true) same-level
-            (subst (λ (n : ℕ). of_level rs n level c ≡ true) same-site (counted_there rs c active)))
-            e)
-            ∙ omega (arith, ap one e)
+          elsewhere : of_level rs s k c ≡ false → get_or new (most_threads * s + k) 0 ≡ get_or old (most_threads * s + k) 0 + one (of_level rs s k c)
+          elsewhere e =
+              get_or-set_other old at (most_threads * s + k) v 0
+              (λ q.
+              let same-site : site ≡ s = omega (arith, place_at, at_is, level_in) in
+              let same-level : level ≡ k = omega (arith, place_at, at_is, level_in) in
+              never_both
+              (subst (λ (n : ℕ). of_level rs s n c ≡ true) same-level
+              (subst (λ (n : ℕ). of_level rs n level c ≡ true) same-site (counted_there rs c active)))
+              e)
+              ∙ omega (arith, ap one e)
 
-    pub raised_more : CountTold rs (cs ++ (c ∷ [])) new true
-    raised_more = ((λ _. more_told new (length-set old at (v + 1)) new_at), λ e. absurd (never_both {b = true} refl e))
+      pub raised_more : CountsTell rs (cs ++ (c ∷ [])) new
+      raised_more = more_told new (length-set old at v) new_at
 
-    pub raised_over : 255 ≤ v → (after : List ℕ) → CountTold rs (cs ++ (c ∷ [])) after false
-    raised_over full after = (
-      (λ e. absurd (never_both {b = false} e refl)),
-      λ _.
-          record {
-            site = site;
-            level = level;
-            site_inside = site_in;
-            level_inside = level_in;
-            many =
-                omega (
-                  arith,
-                  counts_at rs site pass (cs ++ (c ∷ [])) level,
-                  count_more (of_level rs site level) cs c,
-                  ap one (counted_there rs c active),
-                  counts_at rs site pass cs level,
-                  b.told.each site level site_in level_in,
-                  v-is,
-                  ap (λ (n : ℕ). get_or old n 0) (at_is ∙ place_at),
-                );
-          },
-    )
+    pub raised_over : 255 ≤ get_or old at 0 → TooMany rs (cs ++ (c ∷ []))
+    raised_over full =
+        record {
+          site = site;
+          level = level;
+          site_inside = site_in;
+          level_inside = level_in;
+          many =
+              omega (
+                arith,
+                counts_at rs site pass (cs ++ (c ∷ [])) level,
+                count_more (of_level rs site level) cs c,
+                ap one (counted_there rs c active),
+                counts_at rs site pass cs level,
+                b.told.each site level site_in level_in,
+                ap (λ (n : ℕ). get_or old n 0) (at_is ∙ place_at),
+              );
+        }

@@ -3,7 +3,8 @@ use Prim.Native.Nat.{ℕ, suc, ◌+◌, ◌-◌, ◌≤◌, ◌<◌}
 use native.Mathlib.Omega.{arith}
 use mathlib.Core.Path.{◌≡◌, sym, ap, subst, ◌∙◌}
 use mathlib.Core.Logic.{⊎_elim}
-use mathlib.Core.Bool.{true, false}
+use mathlib.Core.Bool.{false}
+use Rattle.std.specs.Prelude.{Some}
 use mathlib.Core.List.{List}
 use lib.ListN.{length, get_or, set, length-set}
 use lib.Seq.{get_or-set_same, get_or-set_other}
@@ -13,7 +14,7 @@ use Rattle.lists.proofs.CountLaws.{lt_or_ge, not_true_false}
 use Rattle.lists.proofs.FillLaws.{filled_none}
 use Rattle.model.specs.Site.{A, lawful}
 use Rattle.model.proofs.SiteLaws.{A-step, lawful_at, lawful-all}
-use Rattle.tally.specs.Tally.{SiteCounted, room_from}
+use Rattle.tally.specs.Tally.{SiteCounted, SiteRoomed, room_from}
 
 -- the levels from k on are done
 pub record DoneFrom (most : ℕ) (a : List ℕ) (base k above : ℕ) (old new : List ℕ) : Type 0 where
@@ -72,9 +73,8 @@ module _ {numbers : List ℕ} {base most : ℕ} {a : List ℕ} (ok : SiteCounted
         without n out =
             get_or-set_other new place n v 0 (λ q. out (omega arith) (omega arith)) ∙ h.rooms_above.outside n (λ low below. out (omega arith) below)
 
-  pub site_lawful : {k above : ℕ} {old new : List ℕ} → DoneFrom most a base k above old new → k ≡ 0
-      → (true ≡ lawful most a) × (true ≡ true → Filled (room_from most a base) base (base + most) old new)
+  pub site_lawful : {k above : ℕ} {old new : List ℕ} → DoneFrom most a base k above old new → k ≡ 0 → SiteRoomed most a base old (Some new)
   site_lawful {k} {above} {old} {new} h e = (
     sym (lawful-all most a (λ j below. h.lawful_above j (omega arith) below)),
-    λ _. subst (λ (n : ℕ). Filled (room_from most a base) n (base + most) old new) (omega arith) h.rooms_above,
+    subst (λ (n : ℕ). Filled (room_from most a base) n (base + most) old new) (omega arith) h.rooms_above,
   )

@@ -1,5 +1,5 @@
 -- What the counts of active calls and the rooms in arrays say of the net that the arrays hold. For the contracts of `tally`. Assumes nothing.
-use Rattle.std.specs.Prelude.{ℕ, ◌+◌, ◌-◌, ◌*◌, ◌≤◌, ◌<◌, ◌≡◌, Bool, true, false, not, length, get_or, eqb}
+use Rattle.std.specs.Prelude.{ℕ, ◌+◌, ◌-◌, ◌*◌, ◌≤◌, ◌<◌, ◌≡◌, Bool, true, false, length, get_or, Option, Some, None}
 use mathlib.Core.List.{List, [], ◌∷◌, ◌++◌, Memᴰ}
 use Rattle.ids.specs.Limits.{sites, most_threads, nodes, most_open}
 use Rattle.lists.specs.Fill.{Filled}
@@ -8,6 +8,7 @@ use Rattle.model.specs.Plan.{Record, threads, six, passes}
 use Rattle.model.specs.Net.{Call, has_node, site_of, level_of, counts}
 use Rattle.model.specs.NetRules.{book_kept, all_lawful}
 use Rattle.value.specs.View.{row_of}
+use Rattle.rooms.specs.declared.Rooms.{Rooms}
 use Rattle.moves.specs.Held.{Tells, node_number, key_of, RoomsTell}
 
 -- the lent sites and levels of the nodes
@@ -51,13 +52,19 @@ abbrev pub Raisable : ℕ → ℕ → List ℕ → List ℕ → List ℕ → Typ
 Raisable key node places levels numbers = (rs : List Record) × (cs : List Call) × (c : Call) × Behind rs cs c key node places levels numbers
 
 -- counted, or too many
-abbrev pub CountTold : List Record → List Call → List ℕ → Bool → Type 0
-CountTold rs cs numbers r = (r ≡ true → CountsTell rs cs numbers) × (r ≡ false → TooMany rs cs)
+abbrev pub CountTold : List Record → List Call → Option (List ℕ) → Type 0
+CountTold rs cs (Some numbers) = CountsTell rs cs numbers
+CountTold rs cs None = TooMany rs cs
 
-abbrev pub Raises : ℕ → ℕ → List ℕ → List ℕ → List ℕ → List ℕ → Bool → Type 0
+-- what stands in an array after a change, or none where the change was refused
+abbrev pub left_in : List ℕ → Option Unit → Option (List ℕ)
+left_in new (Some done) = Some new
+left_in new None = None
+
+abbrev pub Raises : ℕ → ℕ → List ℕ → List ℕ → List ℕ → List ℕ → Option Unit → Type 0
 Raises key node places levels old new r =
     (length new ≡ length old)
-    × ((rs : List Record) (cs : List Call) (c : Call) → Behind rs cs c key node places levels old → CountTold rs (cs ++ (c ∷ [])) new r)
+    × ((rs : List Record) (cs : List Call) (c : Call) → Behind rs cs c key node places levels old → CountTold rs (cs ++ (c ∷ [])) (left_in new r))
 
 -- All calls
 
@@ -69,28 +76,16 @@ pub record Counting (rs : List Record) (cs : List Call) (keys open-nodes : List 
   pub few : length cs ≤ most_open
   pub known : (c : Call) → Memᴰ c cs → has_node rs c.node ≡ true
 
-abbrev pub Countable : List ℕ → List ℕ → ℕ → List ℕ → List ℕ → List ℕ → Type 0
-Countable keys open-nodes used places levels numbers =
-    ((rs : List Record) × (cs : List Call) × Counting rs cs keys open-nodes used places levels) × Zeroed numbers
+abbrev pub Countable : List ℕ → List ℕ → ℕ → List ℕ → List ℕ → Type 0
+Countable keys open-nodes used places levels = (rs : List Record) × (cs : List Call) × Counting rs cs keys open-nodes used places levels
 
-abbrev pub Counts : List ℕ → List ℕ → ℕ → List ℕ → List ℕ → List ℕ → Bool → Type 0
-Counts keys open-nodes used places levels new r =
-    (rs : List Record) (cs : List Call) → Counting rs cs keys open-nodes used places levels → CountTold rs cs new r
-
--- Two arrays of counts
-
-pub record Comparable (numbers others : List ℕ) : Type 0 where
-  pub whole : length numbers ≡ sites * most_threads
-  pub other : length others ≡ sites * most_threads
-
-unfoldable pub differ : List ℕ → List ℕ → ℕ → Bool
-differ numbers others i = not (eqb (get_or numbers i 0) (get_or others i 0))
+abbrev pub Counts : List ℕ → List ℕ → ℕ → List ℕ → List ℕ → Option (List ℕ) → Type 0
+Counts keys open-nodes used places levels r = (rs : List Record) (cs : List Call) → Counting rs cs keys open-nodes used places levels → CountTold rs cs r
 
 -- "each site's counts are those of its active calls"
 
-abbrev pub KeptTested : List ℕ → List ℕ → List ℕ → ℕ → List ℕ → List ℕ → Type 0
-KeptTested numbers keys open-nodes used places levels =
-    ((rs : List Record) × (cs : List Call) × Counting rs cs keys open-nodes used places levels) × (length numbers ≡ sites * most_threads)
+abbrev pub KeptTested : List ℕ → List ℕ → ℕ → List ℕ → List ℕ → Type 0
+KeptTested keys open-nodes used places levels = (rs : List Record) × (cs : List Call) × Counting rs cs keys open-nodes used places levels
 
 abbrev pub KeptTest : List ℕ → List ℕ → List ℕ → ℕ → List ℕ → List ℕ → Bool → Type 0
 KeptTest numbers keys open-nodes used places levels r =
@@ -113,11 +108,14 @@ pub record SiteRoomable (numbers : List ℕ) (base most : ℕ) (rooms : List ℕ
 unfoldable pub room_from : ℕ → List ℕ → ℕ → ℕ → ℕ
 room_from most a base n = most - (n - base) - A a (n - base)
 
-abbrev pub SiteRooms : List ℕ → ℕ → ℕ → List ℕ → List ℕ → Bool → Type 0
+-- the rooms of a lawful site, or none where it is not
+abbrev pub SiteRoomed : ℕ → List ℕ → ℕ → List ℕ → Option (List ℕ) → Type 0
+SiteRoomed most a base old (Some new) = (true ≡ lawful most a) × Filled (room_from most a base) base (base + most) old new
+SiteRoomed most a base old None = false ≡ lawful most a
+
+abbrev pub SiteRooms : List ℕ → ℕ → ℕ → List ℕ → List ℕ → Option Unit → Type 0
 SiteRooms numbers base most old new r =
-    (length new ≡ length old)
-    × ((a : List ℕ) → SiteCounted numbers base most a
-    → (r ≡ lawful most a) × (r ≡ true → Filled (room_from most a base) base (base + most) old new))
+    (length new ≡ length old) × ((a : List ℕ) → SiteCounted numbers base most a → SiteRoomed most a base old (left_in new r))
 
 -- The rooms of all sites
 
@@ -128,16 +126,13 @@ pub record CanRoom (rs : List Record) (cs : List Call) (numbers most-of : List �
   pub threads_whole : length most-of ≡ sites
   pub threads_are : (s : ℕ) → s < sites → get_or most-of s 0 ≡ threads rs s
 
--- no limit anywhere
-pub record Unlimited (rooms : List ℕ) : Type 0 where
-  pub whole : length rooms ≡ sites * most_threads
-  pub all_255 : (i : ℕ) → i < sites * most_threads → get_or rooms i 0 ≡ 255
+abbrev pub Roomable : List ℕ → List ℕ → Type 0
+Roomable numbers most-of = (rs : List Record) × (cs : List Call) × CanRoom rs cs numbers most-of
 
-abbrev pub Roomable : List ℕ → List ℕ → List ℕ → Type 0
-Roomable numbers most-of rooms = ((rs : List Record) × (cs : List Call) × CanRoom rs cs numbers most-of) × Unlimited rooms
+-- the rooms of lawful sites, or none where a site is not lawful
+abbrev pub RoomsTold : List Record → List Call → Option Rooms → Type 0
+RoomsTold rs cs (Some rooms) = (true ≡ all_lawful (record { plan = rs; calls = cs })) × RoomsTell rs (counts rs cs) rooms.left
+RoomsTold rs cs None = false ≡ all_lawful (record { plan = rs; calls = cs })
 
-abbrev pub RoomsOf : List ℕ → List ℕ → List ℕ → Bool → Type 0
-RoomsOf numbers most-of new r =
-    (length new ≡ sites * most_threads)
-    × ((rs : List Record) (cs : List Call) → CanRoom rs cs numbers most-of
-    → (r ≡ all_lawful (record { plan = rs; calls = cs })) × (r ≡ true → RoomsTell rs (counts rs cs) new))
+abbrev pub RoomsOf : List ℕ → List ℕ → Option Rooms → Type 0
+RoomsOf numbers most-of r = (rs : List Record) (cs : List Call) → CanRoom rs cs numbers most-of → RoomsTold rs cs r

@@ -1,109 +1,74 @@
 // The active calls of each site and level counted, and the rooms that they leave. An inner crate: the library's own crates alone call it.
 #![tactic(auto)]
 
-ghost use Rattle.std.specs.Prelude.{◌≡◌, not, ◌*◌};
-ghost use Rattle.lists.specs.Count.{some};
+ghost use Rattle.std.specs.Prelude.{◌≡◌, ◌*◌, length};
 ghost use Rattle.ids.specs.Limits.{sites, most_threads};
-ghost use Rattle.tally.specs.Tally.{differ, Raisable, Raises, Countable, Counts, Comparable, KeptTested, KeptTest, SiteRoomable, SiteRooms, Roomable, RoomsOf};
+ghost use Rattle.tally.specs.Tally.{Raisable, Raises, Countable, Counts, KeptTested, KeptTest, SiteRoomable, SiteRooms, Roomable, RoomsOf};
 
 use ids::Site;
+use model::Plan;
+use rooms::Rooms;
+use table::Table;
 
-// One call more, at its level and site where it is active; `false` where a byte could not hold the count.
-fn raise<'a>(key: u16, node: u8, places: &'a [u8], levels: &'a [u8], counts: &mut [u8]) -> bool
-    requires { Raisable key node places.now levels.now counts.old }
-    ensures { Raises key node places.now levels.now counts.old counts.new result }
+// One call more, at its level and site where it is active; none where a byte could not hold the count.
+fn raise(key: u16, node: u8, plan: &Plan, counts: &mut [u8]) -> Option<()>
+    requires { Raisable key node plan.now.places plan.now.levels counts.old }
+    ensures { Raises key node plan.now.places plan.now.levels counts.old counts.new result }
 {
     if key != 0 {
-        return true;
+        return Some(());
     }
-    let at = Site::THREADS * places[node as usize] as usize + levels[node as usize] as usize;
-    let had = counts[at];
-    if had < 255 {
-        counts[at] = had + 1;
-        return true;
-    }
-    false
+    let site = plan.places[node as usize];
+    let at = Site::THREADS * site as usize + plan.levels[node as usize] as usize;
+    counts[at] = counts[at].checked_add(1)?;
+    Some(())
 }
 
-// The active calls of each site and level, into an array of zeros; `false` where a byte could not hold a count.
-pub fn count<'a>(
-    keys: &'a [u16],
-    nodes: &'a [u8],
-    used: usize,
-    places: &'a [u8],
-    levels: &'a [u8],
-    counts: &mut [u8],
-) -> bool
-    requires { Countable keys.now nodes.now used places.now levels.now counts.old }
-    ensures { Counts keys.now nodes.now used places.now levels.now counts.new result }
+// The active calls of each site and level; none where a byte could not hold a count.
+pub fn count(table: &Table, plan: &Plan) -> Option<[u8; Site::COUNT * Site::THREADS]>
+    requires { Countable table.now.keys table.now.nodes table.now.used plan.now.places plan.now.levels }
+    ensures { Counts table.now.keys table.now.nodes table.now.used plan.now.places plan.now.levels result }
 {
-    for i in 0..used {
-        if !raise(keys[i], nodes[i], places, levels, counts) {
-            return false;
-        }
+    let mut counts = [0; Site::COUNT * Site::THREADS];
+    for i in 0..table.used {
+        raise(table.keys[i], table.nodes[i], plan, &mut counts)?;
     }
-    true
-}
-
-// Whether two arrays of counts are the same. All places are looked at, without an exit.
-pub fn same<'a>(counts: &'a [u8], others: &'a [u8]) -> bool
-    requires { Comparable counts.now others.now }
-    ensures { result ≡ not (some (sites * most_threads) (differ counts.now others.now)) }
-{
-    let mut differs = false;
-    for i in 0..Site::COUNT * Site::THREADS {
-        differs = differs | (counts[i] != others[i]);
-    }
-    !differs
+    Some(counts)
 }
 
 // Whether these are the counts of the active calls.
-pub fn kept<'a>(
-    counts: &'a [u8],
-    keys: &'a [u16],
-    nodes: &'a [u8],
-    used: usize,
-    places: &'a [u8],
-    levels: &'a [u8],
-) -> bool
-    requires { KeptTested counts.now keys.now nodes.now used places.now levels.now }
-    ensures { KeptTest counts.now keys.now nodes.now used places.now levels.now result }
+pub fn kept(counts: &[u8; Site::COUNT * Site::THREADS], table: &Table, plan: &Plan) -> bool
+    requires { KeptTested table.now.keys table.now.nodes table.now.used plan.now.places plan.now.levels }
+    ensures { KeptTest counts.now table.now.keys table.now.nodes table.now.used plan.now.places plan.now.levels result }
 {
-    let mut counted = [0; Site::COUNT * Site::THREADS];
-    if !count(keys, nodes, used, places, levels, &mut counted) {
+    let Some(counted) = count(table, plan) else {
         return false;
-    }
-    same(counts, &counted)
+    };
+    *counts == counted
 }
 
-// The rooms of a site, from its highest level down; `false` where it is not lawful.
-fn site_rooms(counts: &[u8], base: usize, threads: u8, rooms: &mut [u8]) -> bool
-    requires { SiteRoomable counts.now base threads rooms.old }
-    ensures { SiteRooms counts.now base threads rooms.old rooms.new result }
+// The rooms of a site, from its highest level down; none where it is not lawful.
+fn site_rooms(counts: &[u8], base: usize, threads: u8, rooms: &mut Rooms) -> Option<()>
+    requires { SiteRoomable counts.now base threads rooms.old.left }
+    ensures { SiteRooms counts.now base threads rooms.old.left rooms.new.left result }
 {
     let most = threads as usize;
     let mut above = 0;
-    let mut k = most;
-    while k > 0 {
-        k -= 1;
+    for k in (0..most).rev() {
         above += counts[base + k] as usize;
-        if above > most - k {
-            return false;
-        }
-        rooms[base + k] = (most - k - above) as u8;
+        rooms.left[base + k] = (most - k).checked_sub(above)? as u8;
     }
-    true
+    Some(())
 }
 
-// The rooms of all sites, into an array that has no limit anywhere; `false` where a site is not lawful.
-pub fn rooms_of<'a>(counts: &'a [u8], threads: &'a [u8], rooms: &mut [u8]) -> bool
-    requires { Roomable counts.now threads.now rooms.old }
-    ensures { RoomsOf counts.now threads.now rooms.new result }
+// The rooms of all sites; none where a site is not lawful.
+pub fn rooms_of(counts: &[u8], plan: &Plan) -> Option<Rooms>
+    requires { Roomable counts.now plan.now.threads }
+    ensures { RoomsOf counts.now plan.now.threads result }
 {
+    let mut rooms = Rooms::without_limit();
     for site in 0..Site::COUNT {
-        if !site_rooms(counts, Site::THREADS * site, threads[site], rooms) {
-            return false;
-        }
+        site_rooms(counts, Site::THREADS * site, plan.threads[site], &mut rooms)?;
     }
-    true
+    Some(rooms)
 }

@@ -6,6 +6,7 @@ use mathlib.Core.Path.{◌≡◌, refl, sym, ap, subst, ◌∙◌}
 use mathlib.Core.Logic.{⊎_elim}
 use mathlib.Core.List.{List}
 use lib.ListN.{length}
+use Rattle.std.specs.Prelude.{Result, Ok}
 use lib.Seq.{sets}
 use lib.Dec.{eqb}
 use borrow.Author.Tests.{eqb-true, eqb-false}
@@ -16,7 +17,7 @@ use Rattle.text.specs.Room.{line_room}
 use Rattle.text.proofs.PutLaws.{put_long}
 use Rattle.decode.specs.Asked.{request_at}
 use Rattle.decode.specs.declared.Request.{Request}
-use Rattle.decode.specs.declared.NextRequest.{NextRequest}
+use Rattle.decode.specs.declared.Unread.{Unread}
 use Rattle.runs.specs.Went.{Went, nowhere, further, Stops, full, no_command, stop_of}
 use Rattle.value.specs.View.{core_of, broken}
 use Rattle.value.specs.Handed.{value_of}
@@ -34,7 +35,7 @@ record Passed (bytes : List ℕ) (size : ℕ) (first : Core) (from n : ℕ) : Ty
   pub room : length lines + line_room ≤ size
   pub request : Request
   pub behind : ℕ
-  pub there : NextRequest.Whole request behind ≡ request_at bytes at
+  pub there : Ok (request, behind) ≡ request_at bytes at
 
 module _ {bytes : List ℕ} {size : ℕ} {first : Core} {from : ℕ} where
   -- two ways of the same length
@@ -45,9 +46,10 @@ module _ {bytes : List ℕ} {size : ℕ} {first : Core} {from : ℕ} where
   same_way (further w room q b e) nowhere k = absurd (omega arith)
   same_way (further {at = at} w room q b e) (further {at = to} v space p d f) k =
       let yet = same_way w v (omega arith) in
-      let there : NextRequest.Whole q b ≡ NextRequest.Whole p d = e ∙ ap (request_at bytes) yet.1 ∙ sym f in
-      let asks : q ≡ p = cc in
-      let behind : b ≡ d = cc in
+      let there : ◌≡◌ {A = Result (Request × ℕ) Unread} (Ok (q, b)) (Ok (p, d)) = e ∙ ap (request_at bytes) yet.1 ∙ sym f in
+      let pair : ◌≡◌ {A = Request × ℕ} (q, b) (p, d) = cc in
+      let asks : q ≡ p = ap (λ (f : Request × ℕ). f.0) pair in
+      let behind : b ≡ d = ap (λ (f : Request × ℕ). f.1) pair in
       let same_net = yet.0 in
       let same_lines = yet.2 in
       (cc, behind, cc)

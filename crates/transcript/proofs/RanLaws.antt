@@ -14,15 +14,18 @@ use Rattle.model.specs.Net.{Core}
 use Rattle.model.specs.Text.{Text}
 use Rattle.model.specs.Transcript.{Request, command, question, room_question, after}
 use Rattle.model.proofs.StepLaws.{step_plan}
-use Rattle.moves.specs.Held.{Arrays, Held}
+use Rattle.moves.specs.Held.{Arrays, Held, arrays_of}
+use Rattle.moves.specs.declared.Running.{Running as Run}
 use Rattle.steps.specs.Running.{Running}
 use Rattle.runs.specs.Went.{Went, nowhere, further, Stops, RunStands}
 use Rattle.runs.specs.declared.Stop.{Stop}
 use Rattle.decode.specs.Asked.{asked}
-use Rattle.value.specs.View.{core_of, broken}
+use Rattle.value.specs.View.{core_of, broken, rule_number}
 use Rattle.value.specs.Handed.{value_of}
 use Rattle.value.specs.declared.Net.{Net}
+use Rattle.value.specs.declared.NetRule.{NetRule}
 use Rattle.pack.specs.Packed.{Packing}
+use Rattle.entry.proofs.ReadyLaws.{rule_breaks}
 use Rattle.transcript.specs.Ran.{halt_of, untouched, NetRuns}
 use Rattle.transcript.specs.declared.Halt.{Halt}
 use Rattle.transcript.specs.declared.NetRan.{NetRan}
@@ -39,12 +42,12 @@ went_plan nowhere = refl
 went_plan (further {net = net} went room q behind e) = after_plan net (asked q) ∙ went_plan went
 
 pub run_packing : (net : Net) {bytes : List ℕ} {size from : ℕ} {core : Core} {at commands : ℕ} {lines : Text}
-    → Went bytes size (core_of net) from core at commands lines → {b : Arrays} {used : ℕ} {most-of places levels edges : List ℕ}
-    → Running core b used most-of places levels edges → Packing net.plan core.calls b.tickets b.parents b.keys b.nodes used
+    → Went bytes size (core_of net) from core at commands lines → {run : Run} {most-of places levels edges : List ℕ}
+    → Running core (arrays_of run) run.table.used most-of places levels edges → Packing net.plan core.calls run.table
 unfolding core_of
-run_packing net {core = core} went {b} {used} run =
-    let h : Held (records_of net.plan) core.calls b used =
-    subst (λ (rs : List Record). Held rs core.calls b used) (went_plan went) run.held
+run_packing net {core = core} went {run} running =
+    let h : Held (records_of net.plan) core.calls (arrays_of run) run.table.used =
+    subst (λ (rs : List Record). Held rs core.calls (arrays_of run) run.table.used) (went_plan went) running.held
     in
     record {
       joining =
@@ -61,18 +64,18 @@ run_packing net {core = core} went {b} {used} run =
 
 -- What is handed back
 
-pub refused_run : (net : Net) (r : ℕ) → r ≡ broken net → (r ≡ 0 → ⊥) → {bytes : List ℕ} {from : ℕ} {text : List ℕ}
+pub refused_run : (net : Net) (rule : NetRule) → rule_number rule ≡ broken net → {bytes : List ℕ} {from : ℕ} {text : List ℕ}
     → NetRuns net bytes from text text (untouched net from)
-refused_run net r is bad = record { refuses = λ _. (refl, refl); runs = λ e. absurd (bad (is ∙ e)) }
+refused_run net rule is = record { refuses = λ _. (refl, refl); runs = λ sound. absurd (rule_breaks net rule is sound) }
 
-pub ran_on : (net : Net) (r : ℕ) → r ≡ broken net → r ≡ 0 → {b : Arrays} {used : ℕ} {most-of places levels edges bytes : List ℕ}
+pub ran_on : (net : Net) → 0 ≡ broken net → {b : Arrays} {used : ℕ} {most-of places levels edges bytes : List ℕ}
     {from at commands : ℕ} {old new : List ℕ} {to : ℕ} {why : Stop} {got : Net} {halt : Halt}
     → (on : RunStands (core_of net) b used most-of places levels edges bytes from at commands old new to) → Stops bytes at (length new - to) why
     → got ≡ value_of net.plan on.net.calls → halt ≡ halt_of why
     → NetRuns net bytes from old new (record { net = got; at = at; to = to; commands = commands; why = halt })
-ran_on net r is none {why = why} on stops same says =
+ran_on net none {why = why} on stops same says =
     record {
-      refuses = λ bad. absurd (bad (sym is ∙ none));
+      refuses = λ bad. absurd (bad (sym none));
       runs = λ _.
           record {
             core = on.net;

@@ -5,12 +5,11 @@
 ghost use Rattle.std.specs.Prelude.{◌≡◌};
 ghost use Rattle.transcript.specs.Ran.{halt_of, NetRuns};
 
-use ids::{Site, Ticket};
 use runs::Stop;
 use value::Net;
 
 // Why a run stopped.
-#[derive(Clone, Copy)]
+#[derive(Clone, Copy, PartialEq, Eq)]
 pub enum Halt {
     // The text has less room than a line may take.
     Full,
@@ -24,6 +23,19 @@ pub enum Halt {
     Broken,
 }
 
+impl From<Stop> for Halt {
+    ghost from_gives = { λ why halt. halt ≡ halt_of why };
+
+    fn from(why: Stop) -> Halt {
+        match why {
+            Stop::Full => Halt::Full,
+            Stop::End => Halt::End,
+            Stop::Cut => Halt::Cut,
+            Stop::Unknown => Halt::Unknown,
+        }
+    }
+}
+
 // The net behind a run, the places behind what was read and what was written, and how many commands were answered.
 #[derive(Clone, Copy)]
 pub struct NetRan {
@@ -34,38 +46,12 @@ pub struct NetRan {
     pub why: Halt,
 }
 
-fn reason(why: Stop) -> Halt
-    ensures { result ≡ halt_of why }
-{
-    match why {
-        Stop::Full => Halt::Full,
-        Stop::End => Halt::End,
-        Stop::Cut => Halt::Cut,
-        Stop::Unknown => Halt::Unknown,
-    }
-}
-
 // A run: the rules tested once, and then every whole command from a place on answered and its line written, from the first byte of the text on.
 pub fn run(net: Net, bytes: &[u8], from: usize, text: &mut [u8]) -> NetRan
     ensures { NetRuns net bytes.now from text.old text.new result }
 {
-    let mut tickets = [0; Ticket::OPEN];
-    let mut parents = [0; Ticket::OPEN];
-    let mut keys = [0; Ticket::OPEN];
-    let mut nodes = [0; Ticket::OPEN];
-    let mut rooms = [255; Site::COUNT * Site::THREADS];
-    let plan = net.plan;
-    let edges = links::call_rows(plan).rows;
-    let broken = entry::prepare(
-        net,
-        &mut tickets,
-        &mut parents,
-        &mut keys,
-        &mut nodes,
-        &mut rooms,
-        &edges,
-    );
-    if broken != 0 {
+    let edges = links::call_rows(net.plan);
+    let Ok(mut running) = entry::prepare(&net, &edges) else {
         return NetRan {
             net,
             at: from,
@@ -73,31 +59,13 @@ pub fn run(net: Net, bytes: &[u8], from: usize, text: &mut [u8]) -> NetRan
             commands: 0,
             why: Halt::Broken,
         };
-    }
-    let threads = plan.threads;
-    let places = plan.places;
-    let levels = plan.levels;
-    let ran = runs::run(
-        &mut tickets,
-        &mut parents,
-        &mut keys,
-        &mut nodes,
-        &mut rooms,
-        net.used,
-        &threads,
-        &places,
-        &levels,
-        &edges,
-        bytes,
-        from,
-        text,
-    );
-    let stop = ran.why;
+    };
+    let ran = runs::run(&mut running, &net.plan, &edges, bytes, from, text);
     NetRan {
-        net: pack::packed(plan, &tickets, &parents, &keys, &nodes, ran.used),
+        net: pack::packed(net.plan, &running.table),
         at: ran.at,
         to: ran.to,
         commands: ran.commands,
-        why: reason(stop),
+        why: Halt::from(ran.why),
     }
 }

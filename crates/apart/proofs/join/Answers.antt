@@ -4,13 +4,10 @@ use Rattle.apart.proofs.JoinLaws.{joined_none, joined_more, joined_table}
 use Rattle.apart.proofs.join.Goals as goal
 
 pub loop-i-init : goal.loop-i-init
-loop-i-init c = (joined_none, omega arith)
+loop-i-init c = joined_none
 
 pub loop-i-preserved : goal.loop-i-preserved
-loop-i-preserved c = (
-  joined_more c.loop-i.i (omega (arith, c.loop-i-test.true, c.requires.2.count, c.requires.2.few)) c.loop-i.invariant.0,
-  omega (arith, c.loop-i-test.true),
-)
+loop-i-preserved c = joined_more c.loop-i.i (omega (arith, c.loop-i-test.true, c.requires.2.count, c.requires.2.few)) c.loop-i.invariant
 
 pub returns : goal.returns
-returns c = joined_table c.args.used c.loop-i.i c.loop-i-test.false c.loop-i.invariant.1 c.loop-i.invariant.0
+returns c = joined_table c.args.table.now.used c.loop-i.i c.loop-i-test.false c.loop-i.auto.i-end c.loop-i.invariant

@@ -1,17 +1,13 @@
--- `lookup::find` meets its contract. The loop's invariant: no place that is passed has the ticket. Assumes nothing.
-use Rattle.lookup.proofs.SearchLaws.{looked_more, looked_all, table_ends, ticket_here}
+-- `lookup::find` meets its contract: the chain's position among the first calls is the place of the definition. Assumes nothing.
+use Rattle.std.proofs.Common.{rules, tests, ◌∙◌}
+use Rattle.std.proofs.lemmas.Iterator.{YieldsList-from_slice, YieldsList-from_take}
+use Rattle.std.proofs.lemmas.Iterator.Search.{position_from_yields_List}
+use Rattle.lookup.proofs.SearchLaws.{of_ticket, position_placed}
 use Rattle.lookup.proofs.find.Goals as goal
 
-pub returns-then-calls-i : goal.returns-then-calls-i
-returns-then-calls-i c = table_ends c.args.calls.now c.args.ticket.0 c.loop-i.i c.loop-i.invariant c.args.used c.if-calls-i.true
-
-pub returns-then-calls-i-2 : goal.returns-then-calls-i-2
-returns-then-calls-i-2 c =
-    ticket_here c.args.calls.now c.args.ticket.0 c.loop-i.i c.loop-i.invariant c.args.used c.loop-i-test.true c.if-calls-i.false
-    c.if-calls-i-2.true
-
-pub loop-i-preserved : goal.loop-i-preserved
-loop-i-preserved c = looked_more c.args.calls.now c.args.ticket.0 c.loop-i.i c.loop-i.invariant c.if-calls-i-2.false
-
 pub returns : goal.returns
-returns c = looked_all c.args.calls.now c.args.ticket.0 c.loop-i.i c.loop-i.invariant c.args.used c.loop-i-test.false
+returns c =
+    position_from_yields_List (of_ticket c.args.ticket.0) _ _ c.position.result c.position.ensures.ran
+    (YieldsList-from_take c.args.used (YieldsList-from_slice c.args.calls.now cc) cc)
+    (λ x b q k. search (rules, tests))
+    ∙ position_placed c.args.calls.now c.args.ticket.0 c.args.used

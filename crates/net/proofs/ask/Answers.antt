@@ -1,26 +1,27 @@
 -- `net::ask` meets its contract: 19 where a rule is broken; else what stands at the place that the search answers. Assumes nothing.
-use Prim.Native.Nat.{◌<◌}
 use native.Mathlib.Omega.{arith}
-use Rattle.net.proofs.AnsweredLaws.{broken-asked, few, asked_nobody, asked-active, asked_waiting}
+use mathlib.Core.Path.{◌∙◌}
+use Rattle.entry.proofs.ReadyLaws.{rule_breaks}
+use Rattle.net.proofs.AnsweredLaws.{refused_is, broken-asked, asked_nobody, inside_there, asked-active, asked_waiting}
 use borrow.Author.Rules.{rules}
 use Rattle.net.proofs.ask.Goals as goal
 
-pub returns-then-check-ne0 : goal.returns-then-check-ne0
-returns-then-check-ne0 c = broken-asked c.args.net _ c.check.ensures c.if-check-ne0.true _
+pub returns-in_err-check : goal.returns-in_err-check
+returns-in_err-check c =
+    refused_is _ _ c.from_residual.ensures.1
+    ∙ broken-asked c.args.net (rule_breaks c.args.net _ c.in_err-check.ensures) _
 
-pub returns-then-at-net : goal.returns-then-at-net
-returns-then-at-net c = asked_nobody c.args.net _ c.check.ensures c.if-check-ne0.false _ (search rules) _ c.place-at.ensures c.if-at-net.true
+pub returns-in_default : goal.returns-in_default
+returns-in_default c = asked_nobody c.args.net c.in_ok-check.ensures _ (search rules) _ c.place.ensures c.in_default.is
 
-pub offset_bounds-calls-at : goal.offset_bounds-calls-at
-offset_bounds-calls-at c = omega (arith, (let it : c.place-at.result < 256 = omega (arith, c.if-at-net.false, few c.args.net _ c.check.ensures c.if-check-ne0.false) in it))
+pub bounds-net-at : goal.bounds-net-at
+bounds-net-at c = inside_there c.args.net c.in_ok-check.ensures _ (search rules) _ c.place.ensures _ c.in-Some.is
 
-pub bounds-calls-at : goal.bounds-calls-at
-bounds-calls-at c = (let it : c.place-at.result < 256 = omega (arith, c.if-at-net.false, few c.args.net _ c.check.ensures c.if-check-ne0.false) in it)
+pub offset_bounds-net-at : goal.offset_bounds-net-at
+offset_bounds-net-at c = omega (arith, inside_there c.args.net c.in_ok-check.ensures _ (search rules) _ c.place.ensures _ c.in-Some.is)
 
-pub returns-then-found : goal.returns-then-found
-returns-then-found c = asked-active c.args.net _ c.check.ensures c.if-check-ne0.false _ (search rules) _
-    c.place-at.ensures c.if-at-net.false c.if-found.true
+pub returns-then-net-at : goal.returns-then-net-at
+returns-then-net-at c = asked-active c.args.net c.in_ok-check.ensures _ (search rules) _ c.place.ensures _ c.in-Some.is c.if-net-at.true
 
 pub returns : goal.returns
-returns c = asked_waiting c.args.net _ c.check.ensures c.if-check-ne0.false _ (search rules) _
-    c.place-at.ensures c.if-at-net.false c.if-found.false
+returns c = asked_waiting c.args.net c.in_ok-check.ensures _ (search rules) _ c.place.ensures _ c.in-Some.is c.if-net-at.false

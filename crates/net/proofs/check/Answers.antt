@@ -1,12 +1,10 @@
--- `net::check` meets its contract: the arrays are new, and the answer is that of the tests. Assumes nothing.
-use mathlib.Core.Path.{◌≡◌}
-use lib.ListN.{length}
-use Rattle.entry.proofs.FreshLaws.{fresh}
+-- `net::check` meets its contract: the edges are the plan's, and the answer is that of the tests. Assumes nothing.
+use Rattle.entry.proofs.ReadyLaws.{edging}
 use borrow.Author.Rules.{rules}
 use Rattle.net.proofs.check.Goals as goal
 
 pub prepare-requires : goal.prepare-requires
-prepare-requires c = fresh c.args.net ((let it : length c.call_rows.result.rows ≡ 64 = search rules in it)) c.call_rows.ensures
+prepare-requires c = edging c.args.net (search rules) c.call_rows-edges.ensures
 
 pub returns : goal.returns
-returns c = c.prepare.ensures.fault
+returns c = c.in_ok-prepare.ensures.fault

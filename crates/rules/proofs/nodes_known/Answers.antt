@@ -1,26 +1,14 @@
--- `rules::nodes_known` meets its contract: whichever calls the array holds, those before the loop's place have known nodes. Assumes nothing.
-use native.Mathlib.Omega.{arith}
-use mathlib.Core.Path.{◌∙◌}
-use Rattle.rules.proofs.CallLaws.{passes_on, one_decides, all_pass}
-use Rattle.rules.proofs.NodeLaws.{known_is}
+-- `rules::nodes_known` meets its contract: the chain's test of each open node is the plan's of the call there. Assumes nothing.
+use Rattle.std.proofs.Common.{rules, tests, ◌∙◌}
+use Rattle.std.proofs.lemmas.Iterator.{YieldsList-from_slice, YieldsList-from_take}
+use Rattle.std.proofs.lemmas.Iterator.Search.{all_from_yields_List}
+use Rattle.record.specs.Step.{listed_node}
+use Rattle.rules.proofs.NodeLaws.{all_known}
 use Rattle.rules.proofs.nodes_known.Goals as goal
 
-pub loop-i-init : goal.loop-i-init
-loop-i-init c = (omega arith, λ rs cs seen j l. absurd (omega arith))
-
-pub returns-then-not-has_node : goal.returns-then-not-has_node
-returns-then-not-has_node c = let i = c.loop-i.i in
-    λ rs cs seen.
-    one_decides _ seen.counted i c.loop-i-test.true
-    (known_is seen i c.loop-i-test.true _ c.has_node.ensures ∙ c.if-not-has_node.true)
-
-pub loop-i-preserved : goal.loop-i-preserved
-loop-i-preserved c = let i = c.loop-i.i in (
-  omega (arith, c.loop-i-test.true),
-  λ rs cs seen.
-      passes_on _ seen.counted i c.loop-i-test.true (c.loop-i.invariant.1 rs cs seen)
-      (known_is seen i c.loop-i-test.true _ c.has_node.ensures ∙ c.if-not-has_node.false),
-)
-
 pub returns : goal.returns
-returns c = λ rs cs seen. all_pass _ seen.counted c.loop-i.i c.loop-i-test.false (c.loop-i.invariant.1 rs cs seen)
+returns c = λ rs cs seen.
+    all_from_yields_List (listed_node c.args.plan.now.places) _ _ c.all.result c.all.ensures.ran
+    (YieldsList-from_take c.args.table.now.used (YieldsList-from_slice c.args.table.now.nodes cc) cc)
+    (λ x b q k. search (rules, tests))
+    ∙ all_known seen

@@ -1,12 +1,8 @@
 -- `rules::parents_kept` meets its contract: whichever calls the arrays hold, those before the loop's place have their parents. Assumes nothing.
-use native.Mathlib.Omega.{arith}
 use mathlib.Core.Path.{◌∙◌}
 use Rattle.rules.proofs.CallLaws.{passes_on, one_decides, all_pass}
 use Rattle.rules.proofs.ParentLaws.{parent_seen, call_kept}
 use Rattle.rules.proofs.parents_kept.Goals as goal
-
-pub loop-i-init : goal.loop-i-init
-loop-i-init c = (omega arith, λ rs cs seen j l. absurd (omega arith))
 
 pub parent_kept-requires : goal.parent_kept-requires
 parent_kept-requires c = let seen = c.requires in
@@ -21,12 +17,10 @@ returns-then-not-parent_kept c = let i = c.loop-i.i in
 
 pub loop-i-preserved : goal.loop-i-preserved
 loop-i-preserved c = let i = c.loop-i.i in
-    let inside = c.loop-i-test.true in (
-      omega (arith, inside),
-      λ rs cs ok.
-          passes_on _ ok.seen.counted i inside (c.loop-i.invariant.1 rs cs ok)
-          (call_kept ok i inside _ (c.parent_kept.ensures rs cs (parent_seen ok i inside)) ∙ c.if-not-parent_kept.false),
-    )
+    let inside = c.loop-i-test.true in
+    λ rs cs ok.
+    passes_on _ ok.seen.counted i inside (c.loop-i.invariant rs cs ok)
+    (call_kept ok i inside _ (c.parent_kept.ensures rs cs (parent_seen ok i inside)) ∙ c.if-not-parent_kept.false)
 
 pub returns : goal.returns
-returns c = λ rs cs ok. all_pass _ ok.seen.counted c.loop-i.i c.loop-i-test.false (c.loop-i.invariant.1 rs cs ok)
+returns c = λ rs cs ok. all_pass _ ok.seen.counted c.loop-i.i c.loop-i-test.false (c.loop-i.invariant rs cs ok)

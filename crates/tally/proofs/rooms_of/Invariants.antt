@@ -1,5 +1,4 @@
 -- `tally::rooms_of` meets its contract: whichever net the counts are of, the rooms of the sites before the loop's are told. Assumes nothing.
-use Prim.Native.Nat.{◌-◌, ◌≤◌}
 use mathlib.Core.Path.{◌≡◌}
 use mathlib.Core.List.{List}
 use lib.ListN.{length}
@@ -11,7 +10,4 @@ use Rattle.tally.proofs.rooms_of.Given as goal
 
 abbrev pub invariant-loop-site : goal.invariant-loop-site
 invariant-loop-site l =
-    (l.site ≤ 16) × (length l.rooms ≡ 1024) × ((rs : List Record) (cs : List Call) → CanRoom rs cs l.counts l.threads → RoomsTo rs cs l.site l.rooms)
-
-abbrev pub decreases-loop-site : goal.decreases-loop-site
-decreases-loop-site l = 16 - l.site
+    (length l.rooms.left ≡ 1024) × ((rs : List Record) (cs : List Call) → CanRoom rs cs l.counts l.plan.threads → RoomsTo rs cs l.site l.rooms.left)

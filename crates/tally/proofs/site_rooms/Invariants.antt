@@ -8,8 +8,9 @@ use Rattle.tally.proofs.SiteLaws.{DoneFrom}
 use Rattle.tally.proofs.site_rooms.Given as goal
 
 abbrev pub invariant-loop-k : goal.invariant-loop-k
-invariant-loop-k l = (l.above + l.k ≤ l.most) × (length l.rooms ≡ length l.initial.rooms)
-    × ((a : List ℕ) → SiteCounted l.counts l.base l.most a → DoneFrom l.most a l.base l.k l.above l.initial.rooms l.rooms)
-
-abbrev pub decreases-loop-k : goal.decreases-loop-k
-decreases-loop-k l = l.k
+invariant-loop-k l =
+    record {
+      fits : l.above + l.k ≤ l.most;
+      long : length l.rooms.left ≡ length l.initial.rooms.left;
+      done : (a : List ℕ) → SiteCounted l.counts l.base l.most a → DoneFrom l.most a l.base l.k l.above l.initial.rooms.left l.rooms.left;
+    }

@@ -1,26 +1,24 @@
--- `transcript::run` meets its contract: 19 where a rule is broken; else the arrays hold the net, the run goes over them, and what they hold behind it is packed.
+-- `transcript::run` meets its contract: 19 where a rule is broken; else the run holds the net, goes over the bytes, and what it holds behind them is packed.
 -- Assumes nothing.
-use mathlib.Core.Path.{◌≡◌}
-use lib.ListN.{length}
-use Rattle.entry.proofs.FreshLaws.{fresh}
+use Rattle.entry.proofs.ReadyLaws.{edging}
 use Rattle.transcript.proofs.RanLaws.{refused_run, ran_on, run_packing}
 use borrow.Author.Rules.{rules}
 use Rattle.transcript.proofs.run.Goals as goal
 
-pub prepare-broken-requires : goal.prepare-broken-requires
-prepare-broken-requires c = fresh c.args.net ((let it : length c.call_rows.result.rows ≡ 64 = search rules in it)) c.call_rows.ensures
+pub prepare-requires : goal.prepare-requires
+prepare-requires c = edging c.args.net (search rules) c.call_rows-edges.ensures
 
-pub returns-then-broken-ne0 : goal.returns-then-broken-ne0
-returns-then-broken-ne0 c = refused_run c.args.net _ c.prepare-broken.ensures.fault c.if-broken-ne0.true
+pub returns-in_default : goal.returns-in_default
+returns-in_default c = refused_run c.args.net _ c.in_default.ensures
 
 pub run-ran-requires : goal.run-ran-requires
-run-ran-requires c = (_, c.prepare-broken.ensures.runs c.if-broken-ne0.false)
+run-ran-requires c = (_, c.in-Ok.ensures.runs)
 
 pub packed-requires : goal.packed-requires
-packed-requires c = let on = (c.run-ran.ensures _ (c.prepare-broken.ensures.runs c.if-broken-ne0.false)).0 in
+packed-requires c = let on = (c.run-ran.ensures _ c.in-Ok.ensures.runs).0 in
     (_, run_packing c.args.net on.went on.runs_on)
 
 pub returns : goal.returns
-returns c = let went = c.run-ran.ensures _ (c.prepare-broken.ensures.runs c.if-broken-ne0.false) in
-    ran_on c.args.net _ c.prepare-broken.ensures.fault c.if-broken-ne0.false went.0 went.1
-    (c.packed.ensures _ (run_packing c.args.net went.0.went went.0.runs_on)) c.reason.ensures
+returns c = let held = c.in-Ok.ensures in
+    let went = c.run-ran.ensures _ held.runs in
+    ran_on c.args.net held.fault went.0 went.1 (c.packed.ensures _ (run_packing c.args.net went.0.went went.0.runs_on)) c.from.ensures
