@@ -4,7 +4,7 @@ use Rattle.model.specs.Command.{Command, Roomed}
 use Rattle.model.specs.Transcript.{command}
 use Rattle.model.specs.declared.Refusal.{Refusal}
 use Rattle.record.specs.Step.{told_check}
-use Rattle.record.specs.declared.Checked.{Checked}
+use Rattle.model.specs.declared.PlanRefusal.{PlanRefusal}
 use Rattle.text.specs.declared.Printed.{Printed}
 use Rattle.text.specs.Lines.{accepted_told, of_room}
 use Rattle.decode.specs.Asked.{asked}
@@ -14,7 +14,7 @@ use Rattle.value.specs.declared.Net.{Net}
 use Rattle.value.specs.declared.Commanded.{Commanded}
 
 -- 18 for a fault
-abbrev pub MakeRefusal : Checked → Result Unit Refusal → Type 0
+abbrev pub MakeRefusal : Result Unit PlanRefusal → Result Unit Refusal → Type 0
 MakeRefusal checked r = r ≡ cond (eqb (told_check checked) 0) (Ok tt) (Err Refusal.BrokenPlan)
 
 -- a request for a command, and what the command is answered

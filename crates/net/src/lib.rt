@@ -10,8 +10,7 @@ ghost use Rattle.net.specs.Public.{MakeRefusal, CommandAsked, CommandTold, RoomT
 
 use decode::Request;
 use ids::{Level, Node, Site, Ticket};
-use model::{Plan, Refusal};
-use record::Checked;
+use model::{Plan, PlanRefusal, Refusal};
 use table::Table;
 use text::Printed;
 use value::{Commanded, MadeNet, Net, NetRule, Standing};
@@ -29,13 +28,10 @@ fn empty(plan: Plan) -> Net
 }
 
 // 18 for a fault.
-fn refusal(checked: Checked) -> Result<(), Refusal>
+fn refusal(checked: Result<(), PlanRefusal>) -> Result<(), Refusal>
     ensures { MakeRefusal checked result }
 {
-    match checked {
-        Checked::Passed => Ok(()),
-        Checked::Refused(_) => Err(Refusal::BrokenPlan),
-    }
+    checked.map_err(|_| Refusal::BrokenPlan)
 }
 
 // A net without calls, from a plan that passes all its checks; else 18, and the empty net of the empty plan.
@@ -43,11 +39,9 @@ pub fn make(plan: Plan) -> MadeNet
     ensures { result ≡ make_answered plan }
 {
     let audited = audit::check(plan);
-    let checked = audited.checked;
-    let kept = audited.plan;
     MadeNet {
-        answer: refusal(checked),
-        net: empty(kept),
+        answer: refusal(audited.checked),
+        net: empty(audited.plan),
     }
 }
 
