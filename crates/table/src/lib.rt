@@ -25,6 +25,7 @@ pub struct Table {
 }
 
 // Whether a number of the block from `base` on passes a test.
+// kept: a loop without an exit takes 16 instructions a block, and `any`, which has one, 104.
 fn hit<F: Fn(u16) -> bool>(numbers: &[u16], base: usize, passes: &F) -> bool
     requires inside { base + block ≤ length numbers.now }
     requires callable { F.IsAlwaysCallable passes.now }
