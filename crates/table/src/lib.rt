@@ -25,6 +25,7 @@ pub struct Table {
 }
 
 // Whether a number of the block from `base` on passes a test.
+// kept: a loop without an exit takes 16 instructions a block, and `any`, which has one, 104.
 fn hit<F: Fn(u16) -> bool>(numbers: &[u16], base: usize, passes: &F) -> bool
     requires inside { base + block ≤ length numbers.now }
     requires callable { F.IsAlwaysCallable passes.now }
@@ -109,13 +110,12 @@ impl Table {
         ensures closed { Closings at self.old.used self.old self.new }
         ensures counted { self.new.used ≡ self.old.used - 1 }
     {
-        let last = self.used - 1;
-        for i in at..last {
-            self.tickets[i] = self.tickets[i + 1];
-            self.parents[i] = self.parents[i + 1];
-            self.keys[i] = self.keys[i + 1];
-            self.nodes[i] = self.nodes[i + 1];
-        }
+        let used = self.used;
+        let last = used - 1;
+        self.tickets.copy_within(at + 1..used, at);
+        self.parents.copy_within(at + 1..used, at);
+        self.keys.copy_within(at + 1..used, at);
+        self.nodes.copy_within(at + 1..used, at);
         self.tickets[last] = 0;
         self.parents[last] = 0;
         self.keys[last] = 0;
