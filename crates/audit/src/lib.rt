@@ -116,7 +116,13 @@ fn pair_fits(plan: &Plan, i: usize) -> bool
     requires { i < most_edges }
     ensures { result ≡ pair_fits plan.now.callers plan.now.callees i }
 {
-    i == 0 || (plan.callers[i - 1], plan.callees[i - 1]) < (plan.callers[i], plan.callees[i])
+    if i == 0 {
+        return true;
+    }
+    let before = plan.callers[i - 1];
+    let caller = plan.callers[i];
+    // kept: no tuples are compared, which took 738 instructions more on the largest plan, where all these tests take some 5900.
+    before < caller || (before == caller && plan.callees[i - 1] < plan.callees[i])
 }
 
 // Whether an edge is between nodes that have records, and its pair rises.

@@ -121,6 +121,7 @@ pub fn show(text: &mut [u8], bytes: &[u8]) -> usize
     let Ok(_) = scanned.answer else {
         return at;
     };
-    let table = printable::dependence(scanned.plan);
-    node_lines(text, at, scanned.plan, table)
+    let plan = scanned.plan;
+    let table = printable::dependence(plan);
+    node_lines(text, at, plan, table)
 }
