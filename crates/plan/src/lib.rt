@@ -31,11 +31,12 @@ fn passing<'a>(
 }
 
 // Reads records up to the end record, before the checks on the whole plan. Each is stored in place: a plan that went to another function and back
-// would be copied for each record.
+// would be copied for each record. The empty plan is made once: with one made for the refusal too, the program `depends` took 1,328 bytes of stack more.
 pub fn scan(bytes: &[u8]) -> PlanRead
     ensures { ReadTold result (scanning bytes.now) }
 {
-    let mut plan = record::empty();
+    let none = record::empty();
+    let mut plan = none;
     let mut last = PlanRecord::End;
     let mut at = 0;
     loop {
@@ -43,7 +44,7 @@ pub fn scan(bytes: &[u8]) -> PlanRead
         let Ok(Found { next, behind }) = turn else {
             return PlanRead {
                 answer: turn.map(|found| found.behind),
-                plan: record::empty(),
+                plan: none,
             };
         };
         if let PlanRecord::End = next {
@@ -67,10 +68,11 @@ pub fn read(bytes: &[u8]) -> PlanRead
         return scanned;
     };
     if let Err(why) = record::check_end(scanned.plan) {
+        let none = record::empty();
         let offset = used - 1;
         return PlanRead {
             answer: Err(ReadFault { why, offset }),
-            plan: record::empty(),
+            plan: none,
         };
     }
     scanned

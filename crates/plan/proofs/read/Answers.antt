@@ -16,7 +16,7 @@ overflow_sub-offset c =
 pub returns-in-Err : goal.returns-in-Err
 returns-in-Err c =
     let there = reached c.args.bytes.now c.scan-scanned.result c.in-Ok.used c.in-Ok.is c.scan-scanned.ensures in
-    refused_answers c.in-Err.why _ refl c.empty.ensures (fails_end c.args.bytes.now _ _ there c.in-Err.why c.in-Err.ensures)
+    refused_answers c.in-Err.why _ refl c.empty-none.ensures (fails_end c.args.bytes.now _ _ there c.in-Err.why c.in-Err.ensures)
 
 pub returns : goal.returns
 returns c =

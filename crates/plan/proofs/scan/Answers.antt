@@ -11,7 +11,7 @@ use Rattle.plan.proofs.AnswerLaws.{refused_answers, accepted_answers}
 use Rattle.plan.proofs.scan.Goals as goal
 
 pub loop-next-init : goal.loop-next-init
-loop-next-init c = start _ _ c.empty-plan.ensures
+loop-next-init c = start _ _ c.empty-none.ensures
 
 pub returns-in_default : goal.returns-in_default
 returns-in_default c =
@@ -19,7 +19,7 @@ returns-in_default c =
     let why = c.in_default.field-0.why in
     let fault : c.passing.result ≡ Err why = search rules in
     let told : c.map.result ≡ Err (record { why = why; offset = on.at }) = search rules in
-    refused_answers why on.at told c.empty.ensures
+    refused_answers why on.at told c.empty-none.ensures
     (stopped c.args.bytes.now on.plan on.last on.at on.invariant why (subst (Turn c.args.bytes.now on.at on.plan on.last) fault c.passing.ensures))
 
 pub returns-in-End : goal.returns-in-End
