@@ -5,8 +5,8 @@
 
 ghost use Rattle.std.specs.Prelude.{Bool, false, ℕ, ◌≡◌, ◌+◌, ◌-◌, ◌≤◌, length};
 ghost use Rattle.ids.specs.Limits.{most_open};
-ghost use Rattle.lists.specs.Count.{some, first};
-ghost use Rattle.table.specs.Places.{holds, between, past, block, Searched, Padded, Gap, Closings, Decides, passing, Found, Nothing};
+ghost use Rattle.lists.specs.Count.{some};
+ghost use Rattle.table.specs.Places.{holds, between, past, block, Searched, Padded, Gap, Closings, Decides, passing, Looked, Found, Nothing};
 
 use ids::Ticket;
 
@@ -38,18 +38,18 @@ fn hit<F: Fn(u16) -> bool>(numbers: &[u16], base: usize, passes: &F) -> bool
     hit
 }
 
-// The first place of such a number in the block, or the block's end.
-fn look<F: Fn(u16) -> bool>(numbers: &[u16], base: usize, passes: &F) -> usize
+// The first place of such a number in the block.
+fn look<F: Fn(u16) -> bool>(numbers: &[u16], base: usize, passes: &F) -> Option<usize>
     requires inside { base + block ≤ length numbers.now }
     requires callable { F.IsAlwaysCallable passes.now }
-    ensures { (test : ℕ → Bool) → Decides (F.post passes.now) test → result ≡ base + first block (past base (passing test numbers.now)) }
+    ensures { (test : ℕ → Bool) → Decides (F.post passes.now) test → Looked result base (passing test numbers.now) }
 {
     for j in 0..BLOCK {
         if passes(numbers[base + j]) {
-            return base + j;
+            return Some(base + j);
         }
     }
-    base + BLOCK
+    None
 }
 
 // The first place of a number that passes a test, which no zero does.
@@ -60,7 +60,7 @@ fn place<F: Fn(u16) -> bool>(numbers: &[u16], used: usize, passes: F) -> Option<
 {
     for base in (0..used).step_by(BLOCK) {
         if hit(numbers, base, &passes) {
-            return Some(look(numbers, base, &passes));
+            return look(numbers, base, &passes);
         }
     }
     None
