@@ -14,6 +14,11 @@ use Rattle.model.specs.PlanValue.{records_of}
 use Rattle.model.specs.Net.{Call, counts}
 use Rattle.model.specs.declared.Plan.{Plan}
 use Rattle.model.specs.declared.Refusal.{Refusal}
+use Rattle.model.specs.declared.PlanRefusal.{PlanRefusal}
+use Rattle.model.specs.PlanValue.{refusal_number}
+use Rattle.model.proofs.RefusalLaws.{refusal_named}
+use Rattle.std.specs.Result.{MatchResult}
+use borrow.Author.Tests.{ne_eqb}
 use Rattle.record.specs.Step.{told_check}
 use Rattle.audit.specs.Audits.{Audits}
 use Rattle.audit.specs.declared.Audited.{Audited}
@@ -73,3 +78,10 @@ made-is p audited answer net audits e f =
     ap₂ (λ (a : Result Unit Refusal) (m : Net). record { answer = a; net = m })
     (e ∙ ap (λ (n : ℕ). cond (eqb n 0) (Ok tt) (Err Refusal.BrokenPlan)) audits.fault_is)
     (f ∙ ap (λ (q : Plan). value_of q []) audits.plan_is)
+
+-- a fault is told by 18, and no fault by nothing
+pub answer_is : (checked : Result Unit PlanRefusal) (r : Result Unit Refusal)
+    → MatchResult checked (λ x. r ≡ Ok x) (λ e. r ≡ Err Refusal.BrokenPlan)
+    → r ≡ cond (eqb (told_check checked) 0) (Ok tt) (Err Refusal.BrokenPlan)
+answer_is (Ok x) r h = h
+answer_is (Err why) r h = h ∙ sym (rw (ne_eqb (refusal_number why) 0 (refusal_named why).1))

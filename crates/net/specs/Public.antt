@@ -1,10 +1,7 @@
 -- What the helpers of the net's functions answer. For the contracts of `net`. Assumes nothing.
-use Rattle.std.specs.Prelude.{ℕ, ◌≡◌, cond, eqb, Result, Ok, Err}
+use Rattle.std.specs.Prelude.{ℕ, ◌≡◌, Ok}
 use Rattle.model.specs.Command.{Command, Roomed}
 use Rattle.model.specs.Transcript.{command}
-use Rattle.model.specs.declared.Refusal.{Refusal}
-use Rattle.record.specs.Step.{told_check}
-use Rattle.model.specs.declared.PlanRefusal.{PlanRefusal}
 use Rattle.text.specs.declared.Printed.{Printed}
 use Rattle.text.specs.Lines.{accepted_told, of_room}
 use Rattle.decode.specs.Asked.{asked}
@@ -12,10 +9,6 @@ use Rattle.decode.specs.declared.Request.{Request}
 use Rattle.value.specs.Handed.{command_answered, room_value}
 use Rattle.value.specs.declared.Net.{Net}
 use Rattle.value.specs.declared.Commanded.{Commanded}
-
--- 18 for a fault
-abbrev pub MakeRefusal : Result Unit PlanRefusal → Result Unit Refusal → Type 0
-MakeRefusal checked r = r ≡ cond (eqb (told_check checked) 0) (Ok tt) (Err Refusal.BrokenPlan)
 
 -- a request for a command, and what the command is answered
 abbrev pub CommandAsked : Request → Type 0

@@ -6,11 +6,11 @@ ghost use Rattle.std.specs.Prelude.{◌≡◌, []};
 ghost use Rattle.model.specs.Command.{start, call, return, take_back};
 ghost use Rattle.value.specs.View.{broken, rule_told};
 ghost use Rattle.value.specs.Handed.{value_of, command_answered, ask_answered, room_answered, make_answered};
-ghost use Rattle.net.specs.Public.{MakeRefusal, CommandAsked, CommandTold, RoomTold};
+ghost use Rattle.net.specs.Public.{CommandAsked, CommandTold, RoomTold};
 
 use decode::Request;
 use ids::{Level, Node, Site, Ticket};
-use model::{Plan, PlanRefusal, Refusal};
+use model::{Plan, Refusal};
 use table::Table;
 use text::Printed;
 use value::{Commanded, MadeNet, Net, NetRule, Standing};
@@ -27,20 +27,13 @@ fn empty(plan: Plan) -> Net
     }
 }
 
-// 18 for a fault.
-fn refusal(checked: Result<(), PlanRefusal>) -> Result<(), Refusal>
-    ensures { MakeRefusal checked result }
-{
-    checked.map_err(|_| Refusal::BrokenPlan)
-}
-
 // A net without calls, from a plan that passes all its checks; else 18, and the empty net of the empty plan.
 pub fn make(plan: Plan) -> MadeNet
     ensures { result ≡ make_answered plan }
 {
     let audited = audit::check(plan);
     MadeNet {
-        answer: refusal(audited.checked),
+        answer: audited.checked.map_err(|_| Refusal::BrokenPlan),
         net: empty(audited.plan),
     }
 }
