@@ -5,8 +5,8 @@
 
 ghost use Rattle.std.specs.Prelude.{◌≡◌, length};
 
-use ids::{Node, Site};
-use model::{PlanRefusal, ReadAnswer};
+use model::{Plan, PlanRefusal, ReadFault};
+use text::{BadInput, Page};
 use transcript::Halt;
 use value::Net;
 
@@ -16,10 +16,10 @@ const INPUT: usize = 65536;
 const TEXT: usize = 131072;
 
 // The records of the largest plan, and behind them the longest record: with so many bytes a reading is decided.
-const PLAN: usize = 3 * Site::COUNT + 4 * Node::COUNT + 3 * Node::EDGES + 4;
+const PLAN: usize = Plan::FILE + 3;
 
 // No input has so many pieces: a bound that lets every run end.
-const PIECES: usize = 18446744073709551615;
+const PIECES: usize = usize::MAX;
 
 // Where the program stands: its net, the bytes that it holds, the place of the next command in them, the offset of the first of them in the whole input,
 // and how many commands were answered.
@@ -30,15 +30,6 @@ struct Stand {
     at: usize,
     passed: usize,
     commands: usize,
-    open: bool,
-}
-
-// The sum, or the greatest number where it would be more.
-fn plus(a: usize, b: usize) -> usize {
-    if PIECES - a < b {
-        return PIECES;
-    }
-    a + b
 }
 
 // One read behind the bytes that are there; answers how many are there then: as many as before at the end, and where there is no room.
@@ -64,22 +55,14 @@ fn undecided(bytes: &[u8]) -> bool {
     if PLAN <= bytes.len() {
         return false;
     }
-    let read = plan::read(bytes);
-    let answer = read.answer;
-    match answer {
-        ReadAnswer::Accepted(_) => false,
-        ReadAnswer::Refused(why, _) => match why {
-            PlanRefusal::InputEnds => true,
-            PlanRefusal::UnknownKind => false,
-            PlanRefusal::NotRising => false,
-            PlanRefusal::OutOfRange => false,
-            PlanRefusal::NotListed => false,
-            PlanRefusal::LevelTooHigh => false,
-            PlanRefusal::Loop => false,
-            PlanRefusal::SelfDependence => false,
-            PlanRefusal::TooManyEdges => false,
-        },
-    }
+    let answer = plan::read(bytes).answer;
+    matches!(
+        answer,
+        Err(ReadFault {
+            why: PlanRefusal::InputEnds,
+            ..
+        })
+    )
 }
 
 // Reads until the plan is decided or the input ends; answers how many bytes are there.
@@ -103,133 +86,73 @@ fn read_plan(rt: &HostRuntime, input: &mut [u8]) -> usize
     have
 }
 
-// The last line.
-fn ending(text: &mut [u8], why: Halt, commands: usize, offset: usize) -> usize
-    requires { 131072 ≡ length text.old }
-    ensures { length text.new ≡ length text.old }
-{
-    match why {
-        Halt::End => text::done_line(text, 0, commands),
-        Halt::Cut => text::bad_line(text, 0, 1, offset),
-        Halt::Unknown => text::bad_line(text, 0, 2, offset),
-        Halt::Full => 0,
-        Halt::Broken => 0,
-    }
-}
-
 // Writes the last line; there is nobody to tell where that fails.
 fn close(rt: &HostRuntime, text: &mut [u8], why: Halt, commands: usize, offset: usize)
     requires { 131072 ≡ length text.old }
     ensures { length text.new ≡ length text.old }
 {
-    let to = ending(text, why, commands, offset);
-    write(rt, text, to);
+    let mut page = Page { text, at: 0 };
+    match why {
+        Halt::End => page.done_line(commands),
+        Halt::Cut => page.bad_line(BadInput::Cut, offset),
+        Halt::Unknown => page.bad_line(BadInput::Unknown, offset),
+        Halt::Full | Halt::Broken => {}
+    }
+    let to = page.at;
+    write(rt, page.text, to);
 }
 
 // Moves what stands from a place on to the front; answers how many bytes are there then.
 fn carry(input: &mut [u8], at: usize, have: usize) -> usize
     ensures { length input.new ≡ length input.old }
 {
-    if have <= at {
+    if have <= at || input.len() < have {
         return 0;
     }
-    if input.len() < have {
-        return 0;
-    }
-    let rest = have - at;
-    for i in 0..rest {
-        input[i] = input[at + i];
-    }
-    rest
+    input.copy_within(at..have, 0);
+    have - at
 }
 
-// Whether a run may go on when more bytes come.
-fn waits(why: Halt) -> bool {
-    match why {
-        Halt::End => true,
-        Halt::Cut => true,
-        Halt::Unknown => false,
-        Halt::Full => false,
-        Halt::Broken => false,
-    }
-}
-
-// Whether a run stopped for want of room.
-fn full(why: Halt) -> bool {
-    match why {
-        Halt::Full => true,
-        Halt::End => false,
-        Halt::Cut => false,
-        Halt::Unknown => false,
-        Halt::Broken => false,
-    }
-}
-
-// More bytes where they are wanted.
-fn wanted(rt: &HostRuntime, input: &mut [u8], have: usize, wanted: bool) -> usize
-    ensures { length input.new ≡ length input.old }
-{
-    if wanted {
-        return more(rt, input, have);
-    }
-    have
-}
-
-// Nothing is left to do.
-fn over(net: Net) -> Stand {
-    Stand {
-        net,
-        have: 0,
-        at: 0,
-        passed: 0,
-        commands: 0,
-        open: false,
-    }
-}
-
-// One turn: the commands that are there are answered and their lines written; then more is read, or the last line is written.
-fn turn(rt: &HostRuntime, stand: Stand, input: &mut [u8], text: &mut [u8]) -> Stand
+// One turn: the commands that are there are answered and their lines written; then more is read, or the last line is written and nothing is left to do.
+fn turn(rt: &HostRuntime, stand: Stand, input: &mut [u8], text: &mut [u8]) -> Option<Stand>
     requires { 131072 ≡ length text.old }
     ensures input_len_unchanged { length input.new ≡ length input.old }
     ensures text_len_unchanged { length text.new ≡ length text.old }
 {
     let have = stand.have;
     if input.len() < have {
-        return over(stand.net);
+        return None;
     }
     let ran = transcript::run(stand.net, &input[..have], stand.at, text);
-    let net = ran.net;
-    let at = ran.at;
     if !write(rt, text, ran.to) {
-        return over(net);
+        return None;
     }
-    let why = ran.why;
-    let commands = plus(stand.commands, ran.commands);
-    if full(why) {
-        return Stand {
-            net,
+    let commands = stand.commands.saturating_add(ran.commands);
+    if ran.why == Halt::Full {
+        return Some(Stand {
+            net: ran.net,
             have,
-            at,
+            at: ran.at,
             passed: stand.passed,
             commands,
-            open: true,
-        };
+        });
     }
-    let passed = plus(stand.passed, at);
-    let rest = carry(input, at, have);
-    let there = wanted(rt, input, rest, waits(why));
+    let passed = stand.passed.saturating_add(ran.at);
+    let rest = carry(input, ran.at, have);
+    // More bytes may let it go on where it stopped at their end.
+    let waits = matches!(ran.why, Halt::End | Halt::Cut);
+    let there = if waits { more(rt, input, rest) } else { rest };
     if there != rest {
-        return Stand {
-            net,
+        return Some(Stand {
+            net: ran.net,
             have: there,
             at: 0,
             passed,
             commands,
-            open: true,
-        };
+        });
     }
-    close(rt, text, why, commands, passed);
-    over(net)
+    close(rt, text, ran.why, commands, passed);
+    None
 }
 
 fn main(rt: HostRuntime) {
@@ -240,29 +163,29 @@ fn main(rt: HostRuntime) {
         return;
     }
     let read = plan::read(&input[..have]);
-    let to = shown::first_line(&mut text, 0, read);
+    let mut page = Page {
+        text: &mut text,
+        at: 0,
+    };
+    shown::first_line(&mut page, read);
+    let to = page.at;
     if !write(&rt, &text, to) {
         return;
     }
-    let answer = read.answer;
-    let ReadAnswer::Accepted(used) = answer else {
+    let Ok(used) = read.answer else {
         return;
     };
-    let plan = read.plan;
-    let made = net::make(plan);
-    let net = made.net;
     let mut stand = Stand {
-        net,
+        net: net::make(read.plan).net,
         have,
         at: used,
         passed: 0,
         commands: 0,
-        open: true,
     };
     for _ in 0..PIECES {
-        stand = turn(&rt, stand, &mut input, &mut text);
-        if !stand.open {
+        let Some(next) = turn(&rt, stand, &mut input, &mut text) else {
             return;
-        }
+        };
+        stand = next;
     }
 }
