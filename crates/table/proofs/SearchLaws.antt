@@ -1,16 +1,15 @@
 -- A search by blocks that has passed the count has found nothing, since zeros stand behind it and none of the tests holds of a zero. Assumes nothing.
 use Prim.Native.Nat.{ℕ, ◌+◌, ◌≤◌, ◌<◌}
 use native.Mathlib.Omega.{arith}
-use mathlib.Core.Path.{◌≡◌, sym, ap, ◌∙◌}
+use mathlib.Core.Path.{◌≡◌, refl, sym, ap, ◌∙◌}
 use mathlib.Core.Logic.{⊎_elim}
 use mathlib.Core.Bool.{Bool, true, false}
 use mathlib.Core.List.{List}
 use Rattle.ids.specs.Limits.{most_open}
 use Rattle.lists.specs.Count.{some, first}
-use Rattle.lists.proofs.CountLaws.{lt_or_ge, never_both, not_false_so, first_before, first_none, first_holds}
+use Rattle.lists.proofs.CountLaws.{lt_or_ge, never_both, first_before, first_none, first_holds}
 use Rattle.lists.proofs.BlockLaws.{block_here, some_holds, some_none, none_some}
 use Rattle.std.specs.Prelude.{Option, Some, None}
-use Rattle.std.specs.Option.{is_some}
 use Rattle.table.specs.Places.{passing, past, block, Padded, Looked, Found}
 
 -- a test that holds of none of the places past the count
@@ -28,11 +27,21 @@ module _ (f : ℕ → Bool) (used base : ℕ) (quiet : Quiet f used) (passed : u
   pub none_found : most_open ≡ first most_open f
   none_found = sym (first_none most_open f nothing)
 
--- a place was found exactly where there is one
-pub found_some : (f : ℕ → Bool) (o : Option ℕ) → Found o f → is_some o ≡ some most_open f
-found_some f None w = sym (none_some most_open f (λ k h. first_before most_open f k (omega (arith, w))))
-found_some f (Some at) w =
-    sym (not_false_so (some most_open f) (λ e. never_both (first_holds most_open f (omega (arith, w.0, w.1))) (some_none most_open f e (first most_open f) (omega (arith, w.0, w.1)))))
+  pub none_there : some most_open f ≡ false
+  none_there = none_some most_open f nothing
+
+-- what a block holds, the table holds
+pub block_there : (f : ℕ → Bool) (base size : ℕ) → base + size ≤ most_open → some size (λ j. f (base + j)) ≡ true → some most_open f ≡ true
+block_there f base size h e = go (some most_open f) refl
+  where
+    at : ℕ
+    at = first size (λ j. f (base + j))
+
+    go : (b : Bool) → some most_open f ≡ b → b ≡ true
+    go true q = refl
+    go false q =
+        let below = some_holds size (λ j. f (base + j)) e in
+        absurd (never_both (first_holds size (λ j. f (base + j)) below) (some_none most_open f q (base + at) (omega (arith, below))))
 
 -- a look into a block that holds such a number, with none before it, finds the first of the table
 pub looked_found : (f : ℕ → Bool) (base : ℕ) (o : Option ℕ) → base + block ≤ most_open → base ≤ first most_open f → some block (past base f) ≡ true

@@ -58,12 +58,28 @@ fn place<F: Fn(u16) -> bool>(numbers: &[u16], used: usize, passes: F) -> Option<
     requires callable { F.IsAlwaysCallable passes }
     ensures { (test : ℕ → Bool) → Decides (F.post passes) test → test 0 ≡ false → Found result (passing test numbers.now) }
 {
-    for base in (0..used).step_by(BLOCK) {
-        if hit(numbers, base, &passes) {
-            return look(numbers, base, &passes);
+    // kept: `step_by` takes 3 instructions more a block.
+    for n in 0..(used + BLOCK - 1) / BLOCK {
+        if hit(numbers, BLOCK * n, &passes) {
+            return look(numbers, BLOCK * n, &passes);
         }
     }
     None
+}
+
+// Whether some number passes a test, which no zero does.
+// kept: `place(..).is_some()` takes 45 instructions a block in place of 17, since nothing wants the place.
+fn somewhere<F: Fn(u16) -> bool>(numbers: &[u16], used: usize, passes: F) -> bool
+    requires padded { Padded numbers.now used }
+    requires callable { F.IsAlwaysCallable passes }
+    ensures { (test : ℕ → Bool) → Decides (F.post passes) test → test 0 ≡ false → result ≡ some most_open (passing test numbers.now) }
+{
+    for k in 0..(used + BLOCK - 1) / BLOCK {
+        if hit(numbers, BLOCK * k, &passes) {
+            return true;
+        }
+    }
+    false
 }
 
 impl Table {
@@ -93,7 +109,7 @@ impl Table {
         requires { Searched self.now.parents self.now.used ticket }
         ensures { result ≡ some most_open (holds self.now.parents ticket) }
     {
-        place(&self.parents, self.used, |number| number == ticket).is_some()
+        somewhere(&self.parents, self.used, |number| number == ticket)
     }
 
     // The first place of a key above `low` and up to `top`.

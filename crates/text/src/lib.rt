@@ -5,7 +5,7 @@
 ghost use Rattle.std.specs.Prelude.{◌+◌, ◌≤◌, ◌<◌, ◌≡◌, [], ◌∷◌, length};
 ghost use Rattle.model.specs.Text.{decimal, spaced, plan_line, plan_refused_line, done_line, bad_line};
 ghost use Rattle.model.specs.PlanValue.{refusal_number};
-ghost use Rattle.text.specs.Put.{Puts};
+ghost use Rattle.text.specs.Put.{Put, Puts};
 ghost use Rattle.text.specs.Lines.{bad_number, pair_text, printed, answer_end, accepted_told, shown_told, asked_text};
 ghost use Rattle.text.specs.Room.{number_room, long_room, said_room, answer_room, line_room, plan_room, plan_refused_room, done_room, bad_room, HasRoom};
 
@@ -49,6 +49,45 @@ impl From<BadInput> for u8 {
 // The digit 0.
 const ZERO: u16 = 48;
 
+// Two digits at a place, and the place behind them. They are made as one number, the first in its low byte, so that the back end stores both at once.
+fn put_pair(text: &mut [u8], at: usize, n: u16) -> usize
+    requires { (n < 100) × (at + 2 ≤ length text.old) }
+    ensures { Put text.old at (pair_text n) text.new result }
+{
+    let two = (ZERO + n / 10) + 256 * (ZERO + n % 10);
+    text[at] = (two % 256) as u8;
+    text[at + 1] = (two / 256) as u8;
+    at + 2
+}
+
+// A space and a number of up to five digits, straight on: it stands in every line. Most tickets have five.
+// kept: the place is handed on and not kept in the page, which took 24 instructions more a command.
+fn put_number(text: &mut [u8], at: usize, n: u16) -> usize
+    requires { at + number_room ≤ length text.old }
+    ensures { Put text.old at (spaced n) text.new result }
+{
+    text[at] = b' ';
+    if 10000 <= n {
+        text[at + 1] = b'0' + (n / 10000) as u8;
+        let rest = n % 10000;
+        let middle = put_pair(text, at + 2, rest / 100);
+        return put_pair(text, middle, rest % 100);
+    }
+    if n < 10 {
+        text[at + 1] = b'0' + n as u8;
+        return at + 2;
+    }
+    if n < 100 {
+        return put_pair(text, at + 1, n);
+    }
+    if n < 1000 {
+        text[at + 1] = b'0' + (n / 100) as u8;
+        return put_pair(text, at + 2, n % 100);
+    }
+    let middle = put_pair(text, at + 1, n / 100);
+    put_pair(text, middle, n % 100)
+}
+
 // A lent text, and the place behind what was written into it.
 #[derive(Drop)]
 pub struct Page<'a> {
@@ -78,48 +117,13 @@ impl<'a> Page<'a> {
         }
     }
 
-    // Two digits. They are made as one number, the first in its low byte, so that the back end stores both at once.
-    fn pair(&mut self, n: u16)
-        requires few { n < 100 }
-        requires room { HasRoom self.old 2 }
-        ensures same_reference { self.new.text.ghost_name ≡ self.old.text.ghost_name }
-        ensures put { Puts self.old (pair_text n) self.new }
-    {
-        let two = (ZERO + n / 10) + 256 * (ZERO + n % 10);
-        self.text[self.at] = (two % 256) as u8;
-        self.text[self.at + 1] = (two / 256) as u8;
-        self.at += 2;
-    }
-
-    // A space and a number of up to five digits, straight on: it stands in every line. Most tickets have five.
+    // A space and a number of up to five digits.
     pub fn number(&mut self, n: u16)
         requires { HasRoom self.old number_room }
         ensures same_reference { self.new.text.ghost_name ≡ self.old.text.ghost_name }
         ensures put { Puts self.old (spaced n) self.new }
     {
-        self.put(b' ');
-        if 10000 <= n {
-            self.put(b'0' + (n / 10000) as u8);
-            let rest = n % 10000;
-            self.pair(rest / 100);
-            self.pair(rest % 100);
-            return;
-        }
-        if n < 10 {
-            self.put(b'0' + n as u8);
-            return;
-        }
-        if n < 100 {
-            self.pair(n);
-            return;
-        }
-        if n < 1000 {
-            self.put(b'0' + (n / 100) as u8);
-            self.pair(n % 100);
-            return;
-        }
-        self.pair(n / 100);
-        self.pair(n % 100);
+        self.at = put_number(self.text, self.at, n);
     }
 
     // The digits of any number: those of its tenth first, and then the last one.
