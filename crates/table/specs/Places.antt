@@ -50,17 +50,13 @@ pub record Searched (numbers : List ℕ) (used wanted : ℕ) : Type 0 where
   pub table : Padded numbers used
   pub some_number : 0 < wanted
 
--- four arrays of one count, and a place in them that is taken
-pub record Gaps (tickets parents keys nodes : List ℕ) (at used : ℕ) : Type 0 where
-  pub tickets_table : Padded tickets used
-  pub parents_table : Padded parents used
-  pub keys_table : Padded keys used
-  pub nodes_table : Padded nodes used
-  pub taken : at < used
-
 -- a place of the table that is taken
-abbrev pub Gap : Table → ℕ → Type 0
-Gap t at = Gaps t.tickets t.parents t.keys t.nodes at t.used
+pub record Gap (t : Table) (at : ℕ) : Type 0 where
+  pub tickets_table : Padded t.tickets t.used
+  pub parents_table : Padded t.parents t.used
+  pub keys_table : Padded t.keys t.used
+  pub nodes_table : Padded t.nodes t.used
+  pub taken : at < t.used
 
 -- what stands one place further; behind the last number stands a zero, so that closing the gap is this alone
 unfoldable pub next_of : List ℕ → ℕ → ℕ
