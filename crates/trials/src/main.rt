@@ -2,9 +2,8 @@
 #![tactic(auto)]
 
 use ids::{Level, Node, Site, Ticket};
-use model::Plan;
-use record::Checked;
-use value::{AskAnswer, Call, CommandAnswer, Commanded, Net, NetRoom};
+use model::{Plan, Refusal};
+use value::{Call, CommandAnswer, Commanded, Net, Standing};
 
 fn say(rt: &HostRuntime, words: &[u8]) {
     let _ = rt.write_all(words);
@@ -16,118 +15,59 @@ fn say_item(rt: &HostRuntime, word: &[u8], number: u64) {
     let _ = rt.print(number);
 }
 
-fn say_answer(rt: &HostRuntime, answer: CommandAnswer) {
+fn say_refusal(rt: &HostRuntime, why: Refusal) {
+    say_item(rt, b"refused ", u8::from(why) as u64);
+}
+
+fn say_answer(rt: &HostRuntime, answer: Result<CommandAnswer, Refusal>) {
     match answer {
-        CommandAnswer::Active => say(rt, b"active"),
-        CommandAnswer::Waiting(level) => say_item(rt, b"waits for level ", level.0 as u64),
-        CommandAnswer::Ended(admitted) => say_item(rt, b"admits ", admitted.0 as u64),
-        CommandAnswer::Refused(number) => say_item(rt, b"refused ", number as u64),
+        Ok(CommandAnswer::Active) => say(rt, b"active"),
+        Ok(CommandAnswer::Waiting(level)) => say_item(rt, b"waits for level ", level.0 as u64),
+        Ok(CommandAnswer::Ended(admitted)) => say_item(rt, b"admits ", admitted.0 as u64),
+        Err(why) => say_refusal(rt, why),
     }
 }
 
-fn say_ask(rt: &HostRuntime, answer: AskAnswer) {
+fn say_ask(rt: &HostRuntime, answer: Result<Standing, Refusal>) {
     match answer {
-        AskAnswer::Active => say(rt, b"active"),
-        AskAnswer::Waiting => say(rt, b"waits"),
-        AskAnswer::NotOpen => say(rt, b"not open"),
-        AskAnswer::Refused(number) => say_item(rt, b"refused ", number as u64),
+        Ok(Standing::Active) => say(rt, b"active"),
+        Ok(Standing::Waiting) => say(rt, b"waits"),
+        Ok(Standing::NotOpen) => say(rt, b"not open"),
+        Err(why) => say_refusal(rt, why),
     }
 }
 
-fn say_room(rt: &HostRuntime, answer: NetRoom) {
+fn say_room(rt: &HostRuntime, answer: Result<u16, Refusal>) {
     match answer {
-        NetRoom::Room(room) => say_item(rt, b"has ", room as u64),
-        NetRoom::Refused(number) => say_item(rt, b"refused ", number as u64),
+        Ok(room) => say_item(rt, b"has ", room as u64),
+        Err(why) => say_refusal(rt, why),
     }
 }
 
-// Whether two nets are the same, place for place.
-
-fn same_bytes<'a>(ones: &'a [u8], others: &'a [u8]) -> bool {
-    if ones.len() != others.len() {
-        return false;
+// The number of what an answer names as broken or refused, or 0.
+fn number<E: Into<u8>>(answer: Result<(), E>) -> u64 {
+    match answer {
+        Ok(()) => 0,
+        Err(why) => why.into() as u64,
     }
-    for i in 0..ones.len() {
-        if ones[i] != others[i] {
-            return false;
-        }
-    }
-    true
-}
-
-fn same_call(one: Call, other: Call) -> bool {
-    if one.ticket.0 != other.ticket.0 {
-        return false;
-    }
-    if one.parent.0 != other.parent.0 {
-        return false;
-    }
-    if one.node.0 != other.node.0 {
-        return false;
-    }
-    one.active == other.active
-}
-
-fn same_calls(one: Net, other: Net) -> bool {
-    let ones = one.calls;
-    let others = other.calls;
-    for i in 0..Ticket::OPEN {
-        if !same_call(ones[i], others[i]) {
-            return false;
-        }
-    }
-    true
-}
-
-fn same_plans(one: Plan, other: Plan) -> bool {
-    if !same_bytes(&one.threads, &other.threads) {
-        return false;
-    }
-    if !same_bytes(&one.places, &other.places) {
-        return false;
-    }
-    if !same_bytes(&one.levels, &other.levels) {
-        return false;
-    }
-    if !same_bytes(&one.callers, &other.callers) {
-        return false;
-    }
-    if !same_bytes(&one.callees, &other.callees) {
-        return false;
-    }
-    one.edges == other.edges
-}
-
-fn same_nets(one: Net, other: Net) -> bool {
-    if !same_plans(one.plan, other.plan) {
-        return false;
-    }
-    if !same_calls(one, other) {
-        return false;
-    }
-    if !same_bytes(&one.counts, &other.counts) {
-        return false;
-    }
-    one.used == other.used
 }
 
 // A command's answer and what became of the net: the same, or how many calls are open and the rule that is broken.
 fn say_done(rt: &HostRuntime, before: Net, done: Commanded) {
-    let answer = done.answer;
     let after = done.net;
-    say_answer(rt, answer);
-    if same_nets(before, after) {
+    say_answer(rt, done.answer);
+    if before == after {
         say(rt, b", same net");
     } else {
         say_item(rt, b", open ", after.used as u64);
-        say_item(rt, b", rule ", net::check(after) as u64);
+        say_item(rt, b", rule ", number(net::check(after)));
     }
 }
 
 // The rule that a net breaks, and what every function answers of it.
 fn show_net(rt: &HostRuntime, words: &[u8], net: Net) {
     say(rt, words);
-    say_item(rt, b": rule ", net::check(net) as u64);
+    say_item(rt, b": rule ", number(net::check(net)));
     say(rt, b"; start ");
     say_done(rt, net, net::start(net, Ticket(5), Node(0)));
     say(rt, b"; call ");
@@ -346,11 +286,9 @@ fn too_long(plan: Plan) -> Net {
 // So many active calls at node 1, of which the counts can tell up to 255.
 fn crowd(used: usize) -> Net {
     let mut net = net::make(small_plan()).net;
-    let mut calls = net.calls;
     for i in 0..Ticket::OPEN {
-        calls[i] = opened(i as u16 + 1, 0, 1, true);
+        net.calls[i] = opened(i as u16 + 1, 0, 1, true);
     }
-    net.calls = calls;
     net.used = used;
     net.counts[Site::THREADS] = 255;
     net
@@ -365,7 +303,7 @@ fn broken_plans(rt: &HostRuntime) {
     show_plan(rt, b"an edge to node 64", plan_with_edge(0, 64));
     show_plan(rt, b"an edge twice", plan_with_edge(0, 1));
     show_plan(rt, b"257 edges", plan_with_edges(257));
-    show_plan(rt, b"2^64-1 edges", plan_with_edges(18446744073709551615));
+    show_plan(rt, b"2^64-1 edges", plan_with_edges(usize::MAX));
 }
 
 fn broken_tickets(rt: &HostRuntime) {
@@ -380,7 +318,7 @@ fn broken_tickets(rt: &HostRuntime) {
         b"257 open calls, 257 edges",
         too_long(plan_with_edges(257)),
     );
-    show_used(rt, b"2^64-1 open calls", 18446744073709551615);
+    show_used(rt, b"2^64-1 open calls", usize::MAX);
     show_third(rt, b"ticket 1 twice", 1, 0, 1);
     show_third(rt, b"ticket 0", 0, 0, 1);
     show_used(rt, b"spare places counted", 6);
@@ -436,7 +374,7 @@ fn sound_nets(rt: &HostRuntime) {
 fn show_cleared(rt: &HostRuntime) {
     let one = net::start(sound_net(), Ticket(5), Node(0)).net;
     let other = net::start(spare_filled(), Ticket(5), Node(0)).net;
-    if same_nets(one, other) {
+    if one == other {
         say(rt, b"spare places after a start: cleared\n");
     } else {
         say(rt, b"spare places after a start: left\n");
@@ -531,29 +469,19 @@ fn full_commands(rt: &HostRuntime) {
     try_start(rt, again, 258, 1);
 }
 
-// The number of a plan's first fault, or 0.
-fn fault(plan: Plan) -> u64 {
-    let checked = audit::check(plan).checked;
-    match checked {
-        Checked::Passed => 0,
-        Checked::Refused(why) => plan::refusal_number(why) as u64,
-    }
-}
-
 // A plan's fault, the refusal of the net that is to be made from it, and the net that comes all the same.
 fn show_made(rt: &HostRuntime, words: &[u8], plan: Plan) {
     let made = net::make(plan);
     let net = made.net;
     say(rt, words);
-    say_item(rt, b": fault ", fault(plan));
-    say_item(rt, b", refusal ", made.refusal as u64);
-    say_item(rt, b", rule ", net::check(net) as u64);
+    say_item(rt, b": fault ", number(audit::check(plan).checked));
+    say_item(rt, b", refusal ", number(made.answer));
+    say_item(rt, b", rule ", number(net::check(net)));
     say_item(rt, b", open ", net.used as u64);
-    let kept = net.plan;
-    if same_plans(kept, record::empty()) {
+    if net.plan == record::empty() {
         say(rt, b", empty plan\n");
     } else {
-        say_item(rt, b", edges ", kept.edges as u64);
+        say_item(rt, b", edges ", net.plan.edges as u64);
         say(rt, b"\n");
     }
 }
