@@ -6,7 +6,7 @@
 ghost use Rattle.std.specs.Prelude.{◌≡◌, length};
 
 use ids::{Node, Site};
-use model::{PlanRefusal, ReadAnswer};
+use model::{PlanRefusal, ReadFault};
 use transcript::Halt;
 use value::Net;
 
@@ -19,7 +19,7 @@ const TEXT: usize = 131072;
 const PLAN: usize = 3 * Site::COUNT + 4 * Node::COUNT + 3 * Node::EDGES + 4;
 
 // No input has so many pieces: a bound that lets every run end.
-const PIECES: usize = 18446744073709551615;
+const PIECES: usize = usize::MAX;
 
 // Where the program stands: its net, the bytes that it holds, the place of the next command in them, the offset of the first of them in the whole input,
 // and how many commands were answered.
@@ -31,14 +31,6 @@ struct Stand {
     passed: usize,
     commands: usize,
     open: bool,
-}
-
-// The sum, or the greatest number where it would be more.
-fn plus(a: usize, b: usize) -> usize {
-    if PIECES - a < b {
-        return PIECES;
-    }
-    a + b
 }
 
 // One read behind the bytes that are there; answers how many are there then: as many as before at the end, and where there is no room.
@@ -64,22 +56,14 @@ fn undecided(bytes: &[u8]) -> bool {
     if PLAN <= bytes.len() {
         return false;
     }
-    let read = plan::read(bytes);
-    let answer = read.answer;
-    match answer {
-        ReadAnswer::Accepted(_) => false,
-        ReadAnswer::Refused(why, _) => match why {
-            PlanRefusal::InputEnds => true,
-            PlanRefusal::UnknownKind => false,
-            PlanRefusal::NotRising => false,
-            PlanRefusal::OutOfRange => false,
-            PlanRefusal::NotListed => false,
-            PlanRefusal::LevelTooHigh => false,
-            PlanRefusal::Loop => false,
-            PlanRefusal::SelfDependence => false,
-            PlanRefusal::TooManyEdges => false,
-        },
-    }
+    let answer = plan::read(bytes).answer;
+    matches!(
+        answer,
+        Err(ReadFault {
+            why: PlanRefusal::InputEnds,
+            ..
+        })
+    )
 }
 
 // Reads until the plan is decided or the input ends; answers how many bytes are there.
@@ -130,49 +114,11 @@ fn close(rt: &HostRuntime, text: &mut [u8], why: Halt, commands: usize, offset: 
 fn carry(input: &mut [u8], at: usize, have: usize) -> usize
     ensures { length input.new ≡ length input.old }
 {
-    if have <= at {
+    if have <= at || input.len() < have {
         return 0;
     }
-    if input.len() < have {
-        return 0;
-    }
-    let rest = have - at;
-    for i in 0..rest {
-        input[i] = input[at + i];
-    }
-    rest
-}
-
-// Whether a run may go on when more bytes come.
-fn waits(why: Halt) -> bool {
-    match why {
-        Halt::End => true,
-        Halt::Cut => true,
-        Halt::Unknown => false,
-        Halt::Full => false,
-        Halt::Broken => false,
-    }
-}
-
-// Whether a run stopped for want of room.
-fn full(why: Halt) -> bool {
-    match why {
-        Halt::Full => true,
-        Halt::End => false,
-        Halt::Cut => false,
-        Halt::Unknown => false,
-        Halt::Broken => false,
-    }
-}
-
-// More bytes where they are wanted.
-fn wanted(rt: &HostRuntime, input: &mut [u8], have: usize, wanted: bool) -> usize
-    ensures { length input.new ≡ length input.old }
-{
-    if wanted {
-        return more(rt, input, have);
-    }
-    have
+    input.copy_within(at..have, 0);
+    have - at
 }
 
 // Nothing is left to do.
@@ -203,9 +149,8 @@ fn turn(rt: &HostRuntime, stand: Stand, input: &mut [u8], text: &mut [u8]) -> St
     if !write(rt, text, ran.to) {
         return over(net);
     }
-    let why = ran.why;
-    let commands = plus(stand.commands, ran.commands);
-    if full(why) {
+    let commands = stand.commands.saturating_add(ran.commands);
+    if ran.why == Halt::Full {
         return Stand {
             net,
             have,
@@ -215,9 +160,15 @@ fn turn(rt: &HostRuntime, stand: Stand, input: &mut [u8], text: &mut [u8]) -> St
             open: true,
         };
     }
-    let passed = plus(stand.passed, at);
+    let passed = stand.passed.saturating_add(at);
     let rest = carry(input, at, have);
-    let there = wanted(rt, input, rest, waits(why));
+    // More bytes may let it go on where it stopped at their end.
+    let waits = matches!(ran.why, Halt::End | Halt::Cut);
+    let there = if waits {
+        more(rt, input, rest)
+    } else {
+        rest
+    };
     if there != rest {
         return Stand {
             net,
@@ -228,7 +179,7 @@ fn turn(rt: &HostRuntime, stand: Stand, input: &mut [u8], text: &mut [u8]) -> St
             open: true,
         };
     }
-    close(rt, text, why, commands, passed);
+    close(rt, text, ran.why, commands, passed);
     over(net)
 }
 
@@ -244,15 +195,11 @@ fn main(rt: HostRuntime) {
     if !write(&rt, &text, to) {
         return;
     }
-    let answer = read.answer;
-    let ReadAnswer::Accepted(used) = answer else {
+    let Ok(used) = read.answer else {
         return;
     };
-    let plan = read.plan;
-    let made = net::make(plan);
-    let net = made.net;
     let mut stand = Stand {
-        net,
+        net: net::make(read.plan).net,
         have,
         at: used,
         passed: 0,

@@ -2,7 +2,6 @@
 // a line's room, as a caller with little memory would. Everything that decides anything is `transcript`'s.
 #![tactic(auto)]
 
-use model::ReadAnswer;
 use transcript::Halt;
 use value::Net;
 
@@ -40,21 +39,20 @@ fn say_halt(rt: &HostRuntime, why: Halt) {
 
 // One run over a text of this length.
 fn try_length(rt: &HostRuntime, net: Net, bytes: &[u8], from: usize, length: usize) {
-    let mut text = [0u8; MOST];
     if MOST < length {
         return;
     }
+    let mut text = [0u8; MOST];
     let ran = transcript::run(net, bytes, from, &mut text[..length]);
-    let why = ran.why;
     say_item(rt, b"text ", length);
     say_item(rt, b": commands ", ran.commands);
     say_item(rt, b", read to ", ran.at);
     say_item(rt, b", written to ", ran.to);
-    say_halt(rt, why);
+    say_halt(rt, ran.why);
 }
 
 fn try_lengths(rt: &HostRuntime, net: Net, bytes: &[u8], from: usize) {
-    for length in 0..MOST + 1 {
+    for length in 0..=MOST {
         try_length(rt, net, bytes, from, length);
     }
 }
@@ -67,17 +65,6 @@ fn print(rt: &HostRuntime, text: &[u8], to: usize) {
     say(rt, &text[..to]);
 }
 
-// Whether a run can go on with an empty text.
-fn goes_on(why: Halt) -> bool {
-    match why {
-        Halt::Full => true,
-        Halt::End => false,
-        Halt::Cut => false,
-        Halt::Unknown => false,
-        Halt::Broken => false,
-    }
-}
-
 // The run in pieces: each takes up where the one before stopped.
 fn in_pieces(rt: &HostRuntime, first: Net, bytes: &[u8], from: usize) {
     let mut net = first;
@@ -86,10 +73,10 @@ fn in_pieces(rt: &HostRuntime, first: Net, bytes: &[u8], from: usize) {
         let mut text = [0u8; LINE];
         let ran = transcript::run(net, bytes, at, &mut text);
         print(rt, &text, ran.to);
-        let why = ran.why;
         net = ran.net;
         at = ran.at;
-        if !goes_on(why) {
+        // It can go on with an empty text, unless something else than its room stopped it.
+        if ran.why != Halt::Full {
             return;
         }
     }
@@ -99,13 +86,10 @@ fn main(rt: HostRuntime) {
     let mut input = [0u8; INPUT];
     let got = streams::read_full(&mut rt.stdin(), &mut input);
     let read = plan::read(&input[..got]);
-    let answer = read.answer;
-    let ReadAnswer::Accepted(used) = answer else {
+    let Ok(used) = read.answer else {
         return;
     };
-    let plan = read.plan;
-    let made = net::make(plan);
-    let net = made.net;
+    let net = net::make(read.plan).net;
     try_lengths(&rt, net, &input[..got], used);
     in_pieces(&rt, net, &input[..got], used);
 }
