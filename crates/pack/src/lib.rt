@@ -43,17 +43,14 @@ pub fn handed(net: Net, done: Result<Printed, Refusal>, table: &Table) -> Comman
     requires { Handable net done table.now }
     ensures { Hands net done table.now result }
 {
-    let said = match done {
-        Ok(said) => said,
-        Err(why) => {
-            return Commanded {
-                answer: Err(why),
-                net,
-            };
-        }
-    };
-    Commanded {
-        answer: Ok(answer_of(said)),
-        net: packed(net.plan, table),
+    match done {
+        Err(why) => Commanded {
+            answer: Err(why),
+            net,
+        },
+        Ok(said) => Commanded {
+            answer: Ok(answer_of(said)),
+            net: packed(net.plan, table),
+        },
     }
 }

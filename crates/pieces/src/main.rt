@@ -75,7 +75,7 @@ fn in_pieces(rt: &HostRuntime, first: Net, bytes: &[u8], from: usize) {
         print(rt, &text, ran.to);
         net = ran.net;
         at = ran.at;
-        // It can go on with an empty text, unless something else than its room stopped it.
+        // A run that stopped for want of room goes on with an empty text, and no other.
         if ran.why != Halt::Full {
             return;
         }
