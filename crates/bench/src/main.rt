@@ -30,7 +30,6 @@ struct Stand {
     at: usize,
     passed: usize,
     commands: usize,
-    open: bool,
 }
 
 // One read behind the bytes that are there; answers how many are there then: as many as before at the end, and where there is no room.
@@ -121,66 +120,47 @@ fn carry(input: &mut [u8], at: usize, have: usize) -> usize
     have - at
 }
 
-// Nothing is left to do.
-fn over(net: Net) -> Stand {
-    Stand {
-        net,
-        have: 0,
-        at: 0,
-        passed: 0,
-        commands: 0,
-        open: false,
-    }
-}
-
-// One turn: the commands that are there are answered and their lines written; then more is read, or the last line is written.
-fn turn(rt: &HostRuntime, stand: Stand, input: &mut [u8], text: &mut [u8]) -> Stand
+// One turn: the commands that are there are answered and their lines written; then more is read, or the last line is written and nothing is
+// left to do.
+fn turn(rt: &HostRuntime, stand: Stand, input: &mut [u8], text: &mut [u8]) -> Option<Stand>
     requires { 131072 ≡ length text.old }
     ensures input_len_unchanged { length input.new ≡ length input.old }
     ensures text_len_unchanged { length text.new ≡ length text.old }
 {
     let have = stand.have;
     if input.len() < have {
-        return over(stand.net);
+        return None;
     }
     let ran = transcript::run(stand.net, &input[..have], stand.at, text);
-    let net = ran.net;
-    let at = ran.at;
+    let (net, at) = (ran.net, ran.at);
     if !write(rt, text, ran.to) {
-        return over(net);
+        return None;
     }
     let commands = stand.commands.saturating_add(ran.commands);
     if ran.why == Halt::Full {
-        return Stand {
+        return Some(Stand {
             net,
-            have,
             at,
-            passed: stand.passed,
             commands,
-            open: true,
-        };
+            ..stand
+        });
     }
     let passed = stand.passed.saturating_add(at);
     let rest = carry(input, at, have);
     // More bytes may let it go on where it stopped at their end.
     let waits = matches!(ran.why, Halt::End | Halt::Cut);
-    let there = if waits {
-        more(rt, input, rest)
-    } else {
-        rest
-    };
+    let there = if waits { more(rt, input, rest) } else { rest };
     if there != rest {
-        return Stand {
+        return Some(Stand {
             net,
             have: there,
             at: 0,
             passed,
             commands,
-            open: true,
-        };
+        });
     }
     close(rt, text, ran.why, commands, passed);
-    over(net)
+    None
 }
 
 fn main(rt: HostRuntime) {
@@ -204,12 +184,11 @@ fn main(rt: HostRuntime) {
         at: used,
         passed: 0,
         commands: 0,
-        open: true,
     };
     for _ in 0..PIECES {
-        stand = turn(&rt, stand, &mut input, &mut text);
-        if !stand.open {
+        let Some(next) = turn(&rt, stand, &mut input, &mut text) else {
             return;
-        }
+        };
+        stand = next;
     }
 }
