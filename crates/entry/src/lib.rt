@@ -92,8 +92,8 @@ pub fn blank() -> Running
 }
 
 // All rules; where none is broken the run, which holds no net yet, holds this one. The edges are its plan's.
-// kept: the run is lent to be filled. Answered by value within the Result, a single command on the small load took 10,568 instructions beside the clearing of
-// memory where it took 9,382 before, and cleared three times the memory.
+// kept: the run is lent to be filled, and so are its table and its rooms. Answered by value within the Result, a single command on the small load took 26,042
+// instructions where it took 14,735 before, and takes 16,791 so.
 pub fn prepare(net: &Net, edges: &Rows, running: &mut Running) -> Result<(), NetRule>
     requires edged { Edging (records_of net.now.plan) edges.now.rows }
     requires blank { Blank running.old }
