@@ -1,6 +1,6 @@
 -- What `moves::serve` does to the arrays: the first key between the site's place and its limit is that of the oldest call that may be admitted; it becomes 0,
 -- and the rooms of that call's level and below lose one. Assumes nothing.
-use Prim.Native.Nat.{ℕ, ◌+◌, ◌-◌, ◌*◌, ◌≤◌, ◌<◌}
+use Prim.Native.Nat.{ℕ, ◌+◌, ◌-◌, ◌*◌, ◌<◌}
 use native.Mathlib.Omega.{arith}
 use mathlib.Core.Path.{◌≡◌, refl, sym, ap, subst, ◌∙◌}
 use mathlib.Core.Bool.{Bool, cond}
@@ -25,7 +25,7 @@ use Rattle.rooms.specs.Rooms.{no_room, one_less, Taking}
 use Rattle.moves.specs.Held.{Arrays, arrays, Held, Placed, CanServe, key_of}
 use Rattle.moves.proofs.RoomLaws.{rooms-taken}
 use Rattle.moves.proofs.TableLaws.{tells_changed, tells_blind, told_there}
-use Rattle.moves.proofs.WakeLaws.{waiter_is, limit_small}
+use Rattle.moves.proofs.WakeLaws.{waiter_is}
 use Rattle.moves.proofs.OpenLaws.{site_limit, take_fits, level_under, level_long}
 
 -- whom a return finds at a place of the table, or nobody
@@ -34,10 +34,6 @@ pub data Wakes (rs : List Record) (cs : List Call) (site at : ℕ) : Type 0 wher
   somebody : (d : Call) → to_wake rs cs site ≡ some d → at ≡ first_place (may_wake rs cs site) cs → at < length cs → Wakes rs cs site at
 
 module _ {rs : List Record} {cs : List Call} {a : Arrays} {used site most : ℕ} (ok : CanServe rs cs a used site most) where
-  -- the limit lies within the levels
-  pub limit_most : (limit : ℕ) → limit ≡ first most (no_room a.rooms (most_threads * site)) → limit ≤ most_threads
-  limit_most limit e = omega (arith, site_limit ok.held ok.site_inside ok.threads_are, limit_small rs cs ok.held.firm site)
-
   pub wakes : (limit at : ℕ) → limit ≡ first most (no_room a.rooms (most_threads * site))
       → at ≡ first most_open (between a.keys (most_threads * site) (most_threads * site + limit)) → Wakes rs cs site at
   unfolding to_wake

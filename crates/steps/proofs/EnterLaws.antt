@@ -9,7 +9,7 @@ use Rattle.ids.specs.Limits.{sites, nodes, most_threads, most_open}
 use Rattle.lists.specs.Count.{last}
 use Rattle.model.specs.Net.{Core, has_node, site_of, admissible, in_the_way, opened}
 use Rattle.model.specs.Steady.{Newcomer}
-use Rattle.model.specs.Command.{start, call, Answer, active, waiting, fault, opening, done, step}
+use Rattle.model.specs.Command.{Answer, active, waiting, fault, opening, done, step}
 use Rattle.model.proofs.StepLaws.{accepted_step, start_fits, call_fits}
 use Rattle.model.proofs.PlaceLaws.{site_small}
 use Rattle.rooms.specs.Rooms.{no_room, Ranged}
@@ -47,13 +47,6 @@ module _ {net : Core} {a : Arrays} {used : ℕ} {most-of places levels edges : L
       }
 
 -- The newcomer
-
-module _ (net : Core) (parent : Option ℕ) (ticket node number : ℕ) where
-  pub as_call : {caller : ℕ} → number ≡ fault net (call caller ticket node) → parent ≡ Some caller → number ≡ fault net (entering parent ticket node)
-  as_call e is = e ∙ ap (λ (p : Option ℕ). fault net (entering p ticket node)) (sym is)
-
-  pub as_start : number ≡ fault net (start ticket node) → parent ≡ None → number ≡ fault net (entering parent ticket node)
-  as_start e is = e ∙ ap (λ (p : Option ℕ). fault net (entering p ticket node)) (sym is)
 
 module _ (net : Core) (ticket node : ℕ) where
   entering_fits : (parent : Option ℕ) → fault net (entering parent ticket node) ≡ 0 → Newcomer net.plan net.calls (parent_word parent) ticket node

@@ -65,6 +65,7 @@ pub fn enter(
     let site = plan.places[node as usize];
     let level = plan.levels[node as usize];
     let threads = plan.threads[site as usize];
+    // kept: the table's words are the net's, where the ticket 0 is no parent.
     let caller = parent.unwrap_or(Ticket::NONE);
     let active = running.open(caller, ticket, node, site, level, threads);
     Ok(entered(&running.rooms, site, level, active))
@@ -87,6 +88,7 @@ pub fn leave(running: &mut Running, plan: &Plan, ticket: u16) -> Result<Printed,
         return Ok(Printed::Number(Ticket::NONE));
     }
     let admitted = running.serve(site, threads);
+    // kept: "A return prints the ticket admitted or 0".
     Ok(Printed::Number(admitted.unwrap_or(Ticket::NONE)))
 }
 

@@ -1,37 +1,34 @@
 -- Closing a gap in an array that ends in zeros: each place takes over what stands one place further, and so does the last. Assumes nothing.
-use Prim.Native.Nat.{ℕ, ◌+◌, ◌≤◌, ◌<◌}
+use Prim.Native.Nat.{ℕ, ◌+◌, ◌-◌, ◌≤◌, ◌<◌}
 use native.Mathlib.Omega.{arith}
-use mathlib.Core.Path.{◌≡◌, refl, sym, ap, ◌∙◌}
+use mathlib.Core.Path.{◌≡◌, sym, ap, ◌∙◌}
 use mathlib.Core.Logic.{⊎_elim}
 use mathlib.Core.List.{List}
 use lib.ListN.{length, get_or, set, replicate}
-use Rattle.lists.proofs.FillLaws.{filled_none, filled_more, filled_to}
+use Rattle.std.specs.List.{CopiedTo, SameBelow, SameFrom}
+use Rattle.lists.proofs.FillLaws.{filled_more}
 use Rattle.ids.specs.Limits.{most_open}
 use Rattle.std.proofs.lemmas.List.{get_or-replicate, get_or_past, length-replicate}
 use Rattle.lists.proofs.CountLaws.{lt_or_ge}
-use Rattle.table.specs.declared.Table.{Table}
-use Rattle.table.specs.Places.{Padded, next_of, Closing, Closings}
+use Rattle.table.specs.Places.{Padded, next_of, Closing}
 
-pub gap_turn : {old new : List ℕ} {at i : ℕ} → at ≤ i → i < length old → Closing at i old new → Closing at (i + 1) old (set new i (get_or new (i + 1) 0))
-unfolding next_of
-gap_turn {old} {new} {at} {i} low h w =
-    filled_more (next_of old) at i (i + 1) old new (get_or new (i + 1) 0) refl low h (w.outside (i + 1) (λ p q. omega arith)) w
+module _ {old : List ℕ} {at used : ℕ} (new : List ℕ) (last : ℕ) (t : Padded old used) (taken : at < used) (last_is : last + 1 ≡ used) (long : length new ≡ length old)
+    (moved : CopiedTo old new (at + 1) at (used - (at + 1))) (below : SameBelow old new at) (behind : SameFrom old new (at + (used - (at + 1)))) where
+  up_to_last : Closing at last old new
+  unfolding next_of
+  up_to_last =
+      record {
+        long = long;
+        inside = λ n p q. let same : at + 1 + (n - at) ≡ n + 1 = omega arith in moved n 0 p (omega arith) ∙ ap (λ (i : ℕ). get_or old i 0) same;
+        outside = λ n apart.
+            ⊎_elim (λ (p : n < at). below n 0 p) (λ (p : at ≤ n). behind n 0 (⊎_elim (λ (q : n < last). absurd (apart p q)) (λ (q : last ≤ n). omega arith) (lt_or_ge n last))) (lt_or_ge n at);
+      }
 
-pub gap_end : {old new : List ℕ} {at i last used : ℕ} → Padded old used → i ≡ last → last + 1 ≡ used → at ≤ last → Closing at i old new
-    → Closing at used old (set new last 0)
-unfolding next_of
-gap_end {old} {new} {at} {i} {last} {used} t here e low w =
-    filled_more (next_of old) at last used old new 0 (sym e) low (omega (arith, t.whole, t.few))
-    (sym (ap (λ (n : ℕ). get_or old n 0) e ∙ t.zeros used (omega arith))) (filled_to here w)
-
-pub gaps_open : (at : ℕ) (t : Table) → Closings at at t t
-gaps_open at t =
-    record {
-      of_tickets = filled_none (next_of t.tickets) at t.tickets;
-      of_parents = filled_none (next_of t.parents) at t.parents;
-      of_keys = filled_none (next_of t.keys) at t.keys;
-      of_nodes = filled_none (next_of t.nodes) at t.nodes;
-    }
+  pub gap_closed : Closing at used old (set new last 0)
+  unfolding next_of
+  gap_closed =
+      filled_more (next_of old) at last used old new 0 (sym last_is) (omega arith) (omega (arith, t.whole, t.few))
+      (sym (ap (λ (n : ℕ). get_or old n 0) last_is ∙ t.zeros used (omega arith))) up_to_last
 
 zero_at : (n i : ℕ) → ◌≡◌ {A = ℕ} (get_or (replicate n 0) i 0) 0
 zero_at n i =

@@ -1,7 +1,7 @@
 -- What the searches of `table` look for, and what the arrays hold after a change, for its contracts. Assumes nothing.
-use Rattle.std.specs.Prelude.{ℕ, ◌+◌, ◌^◌, ◌≤◌, ◌<◌, ◌≡◌, Bool, ◌&&◌, List, length, get_or, leb, ltb, eqb, Option, Some, None}
+use Rattle.std.specs.Prelude.{ℕ, ◌+◌, ◌^◌, ◌≤◌, ◌<◌, ◌≡◌, Bool, false, ◌&&◌, List, length, get_or, leb, ltb, eqb, Option, Some, None}
 use Rattle.ids.specs.Limits.{most_open}
-use Rattle.lists.specs.Count.{first}
+use Rattle.lists.specs.Count.{first, some}
 use Rattle.lists.specs.Fill.{Filled}
 use Rattle.table.specs.declared.Table.{Table}
 
@@ -25,14 +25,19 @@ passing test numbers i = test (get_or numbers i 0)
 abbrev pub Decides : (ℕ → Bool → Type 0) → (ℕ → Bool) → Type 0
 Decides results test = (x : ℕ) → x < 2 ^ 16 → (r : Bool) → results x r → r ≡ test x
 
+-- a test seen from a place on
+abbrev pub past : ℕ → (ℕ → Bool) → ℕ → Bool
+past base f j = f (base + j)
+
+-- what a look into the block from `base` on answers: the first place that passes a test, or none
+abbrev pub Looked : Option ℕ → ℕ → (ℕ → Bool) → Type 0
+Looked None base f = some block (past base f) ≡ false
+Looked (Some at) base f = at ≡ base + first block (past base f)
+
 -- what a search for the first place that passes a test answers: the place, inside the table, or none where there is no such place
 abbrev pub Found : Option ℕ → (ℕ → Bool) → Type 0
 Found None f = most_open ≡ first most_open f
 Found (Some at) f = (at ≡ first most_open f) × (at < most_open)
-
--- a test seen from a place on
-abbrev pub past : ℕ → (ℕ → Bool) → ℕ → Bool
-past base f j = f (base + j)
 
 -- a whole table with zeros past its count
 pub record Padded (numbers : List ℕ) (used : ℕ) : Type 0 where

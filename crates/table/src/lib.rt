@@ -5,8 +5,8 @@
 
 ghost use Rattle.std.specs.Prelude.{Bool, false, ℕ, ◌≡◌, ◌+◌, ◌-◌, ◌≤◌, length};
 ghost use Rattle.ids.specs.Limits.{most_open};
-ghost use Rattle.lists.specs.Count.{some, first};
-ghost use Rattle.table.specs.Places.{holds, between, past, block, Searched, Padded, Gap, Closings, Decides, passing, Found, Nothing};
+ghost use Rattle.lists.specs.Count.{some};
+ghost use Rattle.table.specs.Places.{holds, between, past, block, Searched, Padded, Gap, Closings, Decides, passing, Looked, Found, Nothing};
 
 use ids::Ticket;
 
@@ -25,6 +25,7 @@ pub struct Table {
 }
 
 // Whether a number of the block from `base` on passes a test.
+// kept: a loop without an exit takes 16 instructions a block, and `any`, which has one, 104.
 fn hit<F: Fn(u16) -> bool>(numbers: &[u16], base: usize, passes: &F) -> bool
     requires inside { base + block ≤ length numbers.now }
     requires callable { F.IsAlwaysCallable passes.now }
@@ -37,18 +38,18 @@ fn hit<F: Fn(u16) -> bool>(numbers: &[u16], base: usize, passes: &F) -> bool
     hit
 }
 
-// The first place of such a number in the block, or the block's end.
-fn look<F: Fn(u16) -> bool>(numbers: &[u16], base: usize, passes: &F) -> usize
+// The first place of such a number in the block.
+fn look<F: Fn(u16) -> bool>(numbers: &[u16], base: usize, passes: &F) -> Option<usize>
     requires inside { base + block ≤ length numbers.now }
     requires callable { F.IsAlwaysCallable passes.now }
-    ensures { (test : ℕ → Bool) → Decides (F.post passes.now) test → result ≡ base + first block (past base (passing test numbers.now)) }
+    ensures { (test : ℕ → Bool) → Decides (F.post passes.now) test → Looked result base (passing test numbers.now) }
 {
     for j in 0..BLOCK {
         if passes(numbers[base + j]) {
-            return base + j;
+            return Some(base + j);
         }
     }
-    base + BLOCK
+    None
 }
 
 // The first place of a number that passes a test, which no zero does.
@@ -59,7 +60,7 @@ fn place<F: Fn(u16) -> bool>(numbers: &[u16], used: usize, passes: F) -> Option<
 {
     for base in (0..used).step_by(BLOCK) {
         if hit(numbers, base, &passes) {
-            return Some(look(numbers, base, &passes));
+            return look(numbers, base, &passes);
         }
     }
     None
@@ -109,13 +110,12 @@ impl Table {
         ensures closed { Closings at self.old.used self.old self.new }
         ensures counted { self.new.used ≡ self.old.used - 1 }
     {
-        let last = self.used - 1;
-        for i in at..last {
-            self.tickets[i] = self.tickets[i + 1];
-            self.parents[i] = self.parents[i + 1];
-            self.keys[i] = self.keys[i + 1];
-            self.nodes[i] = self.nodes[i + 1];
-        }
+        let used = self.used;
+        let last = used - 1;
+        self.tickets.copy_within(at + 1..used, at);
+        self.parents.copy_within(at + 1..used, at);
+        self.keys.copy_within(at + 1..used, at);
+        self.nodes.copy_within(at + 1..used, at);
         self.tickets[last] = 0;
         self.parents[last] = 0;
         self.keys[last] = 0;

@@ -2,8 +2,9 @@
 use Prim.Native.Nat.{◌+◌}
 use native.Mathlib.Omega.{arith}
 use mathlib.Core.Path.{sym, ◌∙◌}
-use Rattle.lists.proofs.BlockLaws.{first_passed, first_here, first_end}
-use Rattle.table.specs.Places.{passing, block}
+use Rattle.lists.proofs.BlockLaws.{first_passed, first_here, none_some}
+use Rattle.lists.proofs.CountLaws.{first_before}
+use Rattle.table.specs.Places.{passing, past, block}
 use Rattle.table.proofs.look.Goals as goal
 
 pub loop-j-init : goal.loop-j-init
@@ -22,4 +23,7 @@ loop-j-preserved g c = λ test decides.
     first_passed block _ c.loop-j.j (omega arith) (c.loop-j.invariant test decides) (sym says ∙ c.if-passes.false)
 
 pub returns : goal.returns
-returns g c = λ test decides. first_end block _ _ _ (omega arith) (c.loop-j.invariant test decides)
+returns g c = λ test decides.
+    let low = c.loop-j.invariant test decides in
+    let f = past c.args.base (passing test c.args.numbers.now) in
+    none_some block f (λ k h. first_before block f k (omega arith))

@@ -1,11 +1,11 @@
 -- `table::place` meets its contract. The loop's invariant: no number that passes stands below `base`, which is a whole number of blocks. Assumes nothing.
-use Prim.Native.Nat.{◌+◌, ◌≤◌}
+use Prim.Native.Nat.{◌+◌}
 use native.Mathlib.Omega.{arith}
 use mathlib.Core.Path.{sym, ◌∙◌}
 use Rattle.ids.specs.Limits.{most_open}
-use Rattle.lists.proofs.BlockLaws.{some_holds, block_passed, block_here}
-use Rattle.table.specs.Places.{passing, block}
-use Rattle.table.proofs.SearchLaws.{passing_quiet, none_found}
+use Rattle.lists.proofs.BlockLaws.{block_passed}
+use Rattle.table.specs.Places.{block}
+use Rattle.table.proofs.SearchLaws.{passing_quiet, none_found, looked_found}
 use Rattle.table.proofs.place.Goals.{else-loop-base-test, then-loop-base-test+else-hit+else-used-base-gt32}
 use Rattle.table.proofs.place.Goals as goal
 
@@ -20,11 +20,8 @@ look-requires-clause-inside g c = omega (arith, c.requires.padded.whole, c.requi
 
 pub returns-then-hit : goal.returns-then-hit
 returns-then-hit g c = λ test decides zero.
-    let inside : c.loop-base.base + block ≤ most_open = omega (arith, c.requires.padded.few, c.loop-base.invariant.1) in
-    let low = c.loop-base.invariant.0 test decides zero in
-    let some_there = sym (c.hit.ensures test decides) ∙ c.if-hit.true in
-    let here = block_here most_open (passing test c.args.numbers.now) c.loop-base.base block inside low some_there in
-    (c.look.ensures test decides ∙ here, omega (arith, c.look.ensures test decides, some_holds block _ some_there))
+    looked_found _ c.loop-base.base _ (omega (arith, c.requires.padded.few, c.loop-base.invariant.1)) (c.loop-base.invariant.0 test decides zero)
+    (sym (c.hit.ensures test decides) ∙ c.if-hit.true) (c.look.ensures test decides)
 
 pub loop-base-preserved : goal.loop-base-preserved
 loop-base-preserved g c = (

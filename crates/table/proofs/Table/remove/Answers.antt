@@ -1,29 +1,22 @@
--- `Table::remove` meets its contract. The loop's invariant: in each array the places from the gap up to i hold what stood one place further. Behind the
--- last number stood a zero, so that the zero at the end is one more such place. Assumes nothing.
+-- `Table::remove` meets its contract: in each array the places behind the gap move up by one. Behind the last number stood a zero, so that the zero at the
+-- end is one more such place. Assumes nothing.
+use Prim.Native.Nat.{◌+◌, ◌-◌}
+use mathlib.Core.Path.{◌≡◌}
 use native.Mathlib.Omega.{arith}
-use Rattle.table.proofs.GapLaws.{gap_turn, gap_end, gaps_open}
+use Rattle.table.proofs.GapLaws.{gap_closed}
 use Rattle.table.proofs.Table.remove.Goals as goal
 
-pub loop-i-init : goal.loop-i-init
-loop-i-init c = gaps_open _ _
-
-pub loop-i-preserved : goal.loop-i-preserved
-loop-i-preserved c = let tables = c.requires in
-    let closed = c.loop-i.invariant in
-    let low = c.loop-i.auto.i in
-    record {
-      of_tickets = gap_turn low (omega (arith, tables.tickets_table.whole, tables.tickets_table.few)) closed.of_tickets;
-      of_parents = gap_turn low (omega (arith, tables.parents_table.whole, tables.parents_table.few)) closed.of_parents;
-      of_keys = gap_turn low (omega (arith, tables.keys_table.whole, tables.keys_table.few)) closed.of_keys;
-      of_nodes = gap_turn low (omega (arith, tables.nodes_table.whole, tables.nodes_table.few)) closed.of_nodes;
-    }
-
 pub returns-clause-closed : goal.returns-clause-closed
-returns-clause-closed c = let tables = c.requires in
-    let closed = c.loop-i.invariant in
+returns-clause-closed c = let t = c.requires in
+    let last = c.args.self.now.used - 1 in
+    let last_is : last + 1 ≡ c.args.self.now.used = omega arith in
+    let tickets = c.copy_within.ensures in
+    let parents = c.copy_within-2.ensures in
+    let keys = c.copy_within-3.ensures in
+    let nodes = c.copy_within-4.ensures in
     record {
-      of_tickets = gap_end tables.tickets_table (omega arith) (omega arith) (omega arith) closed.of_tickets;
-      of_parents = gap_end tables.parents_table (omega arith) (omega arith) (omega arith) closed.of_parents;
-      of_keys = gap_end tables.keys_table (omega arith) (omega arith) (omega arith) closed.of_keys;
-      of_nodes = gap_end tables.nodes_table (omega arith) (omega arith) (omega arith) closed.of_nodes;
+      of_tickets = gap_closed _ last t.tickets_table t.taken last_is tickets.len tickets.by_index.0 tickets.by_index.1 tickets.by_index.2;
+      of_parents = gap_closed _ last t.parents_table t.taken last_is parents.len parents.by_index.0 parents.by_index.1 parents.by_index.2;
+      of_keys = gap_closed _ last t.keys_table t.taken last_is keys.len keys.by_index.0 keys.by_index.1 keys.by_index.2;
+      of_nodes = gap_closed _ last t.nodes_table t.taken last_is nodes.len nodes.by_index.0 nodes.by_index.1 nodes.by_index.2;
     }
