@@ -3,6 +3,7 @@
 
 ghost use Rattle.std.specs.Prelude.{◌≡◌, ◌≤◌};
 ghost use Rattle.ids.specs.Limits.{most_open};
+ghost use Rattle.table.specs.Places.{Nothing};
 ghost use Rattle.value.specs.View.{call_of};
 ghost use Rattle.apart.specs.Apart.{key_in, Numbers, Known, Keys, Joinable, Joins};
 
@@ -23,14 +24,14 @@ fn key(call: Call, plan: &Plan) -> u16
     base + record::byte(&plan.levels, node) as u16 + 1
 }
 
-// The open calls as a run holds them; the keys are told where every node has a record.
-pub fn table(net: &Net) -> Table
-    requires { net.now.used ≤ most_open }
-    ensures numbered { Numbers net.now result.tickets result.parents result.nodes }
-    ensures keyed { Known net.now → Keys net.now result.keys }
-    ensures counted { result.used ≡ net.now.used }
+// The open calls into a run's table, which holds none yet; their keys are told where every node has a record.
+pub fn fill(net: &Net, table: &mut Table)
+    requires few { net.now.used ≤ most_open }
+    requires nothing { Nothing table.old }
+    ensures numbered { Numbers net.now table.new.tickets table.new.parents table.new.nodes }
+    ensures keyed { Known net.now → Keys net.now table.new.keys }
+    ensures counted { table.new.used ≡ net.now.used }
 {
-    let mut table = Table::empty();
     for i in 0..net.used {
         let call = net.calls[i];
         table.tickets[i] = call.ticket.0;
@@ -39,7 +40,6 @@ pub fn table(net: &Net) -> Table
         table.keys[i] = key(call, &net.plan);
     }
     table.used = net.used;
-    table
 }
 
 // The calls that a run's table holds, as a net has them.

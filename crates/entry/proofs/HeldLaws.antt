@@ -197,7 +197,7 @@ module _ (net : Net) where
             planned = planned net.plan k.number_kept.plan_kept.sized edging;
           }
 
-  pub prepared : {t : Table} {edges : List ℕ} → CallKept net → Tabled net t → Edging (rs net) edges → (r : Result Run NetRule) → SiteRules net t r
-      → Prepares net edges r
-  prepared k tabled edging (Ok run) says = runs k tabled says edging
-  prepared k tabled edging (Err rule) says = says
+  pub prepared : (old new : Run) {edges : List ℕ} → CallKept net → Tabled net old.table → Edging (rs net) edges → (r : Result Unit NetRule)
+      → SiteRules net old new r → Prepares net edges new r
+  prepared old new k held edging (Ok kept) says = runs k held says edging
+  prepared old new k held edging (Err rule) says = says

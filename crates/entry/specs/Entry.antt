@@ -9,7 +9,9 @@ use Rattle.model.specs.NetRules.{parent_kept, could_go, tickets_kept, book_kept,
 use Rattle.model.specs.declared.Plan.{Plan}
 use Rattle.model.proofs.HeldLaws.{Sized}
 use Rattle.audit.specs.Audits.{records_pass}
+use Rattle.table.specs.Places.{Nothing}
 use Rattle.table.specs.declared.Table.{Table}
+use Rattle.rooms.specs.Rooms.{NoLimit}
 use Rattle.moves.specs.Held.{arrays_of, RoomsTell}
 use Rattle.moves.specs.declared.Running.{Running as Run}
 use Rattle.faults.specs.Seen.{Edging}
@@ -80,26 +82,31 @@ abbrev pub CallRules : Net → Result Unit NetRule → Type 0
 CallRules net r = Part net (CallKept net) r
 
 -- the sites and the waiting calls
-pub record SiteTested (net : Net) (t : Table) : Type 0 where
+pub record SiteTested (net : Net) (run : Run) : Type 0 where
   pub call_kept : CallKept net
-  pub tabled : Tabled net t
+  pub tabled : Tabled net run.table
+  pub unlimited : NoLimit run.rooms
 
 pub record SiteKept (net : Net) (rooms : List ℕ) : Type 0 where
   pub lawful_are : all_lawful (record { plan = records_of net.plan; calls = open_calls net }) ≡ true
   pub settled_are : all (λ c. not (could_go (records_of net.plan) (open_calls net) c)) (open_calls net) ≡ true
   pub of_rooms : RoomsTell (records_of net.plan) (counts (records_of net.plan) (open_calls net)) rooms
 
--- no rule is broken, and the run has the table with its rooms
+-- no rule is broken, and the run has its table with the rooms
 pub record SitesRun (net : Net) (t : Table) (run : Run) : Type 0 where
   pub fault : 0 ≡ broken net
   pub same : run.table ≡ t
   pub kept : SiteKept net run.rooms.left
 
-abbrev pub SiteRules : Net → Table → Result Run NetRule → Type 0
-SiteRules net t (Ok run) = SitesRun net t run
-SiteRules net t (Err rule) = rule_number rule ≡ broken net
+abbrev pub SiteRules : Net → Run → Run → Result Unit NetRule → Type 0
+SiteRules net old new (Ok kept) = SitesRun net old.table new
+SiteRules net old new (Err rule) = rule_number rule ≡ broken net
 
 -- All rules
+
+-- a run that holds nothing
+abbrev pub Blank : Run → Type 0
+Blank run = Nothing run.table × NoLimit run.rooms
 
 -- what the run holds of a net that breaks none
 pub record Prepared (net : Net) (run : Run) (edges : List ℕ) : Type 0 where
@@ -108,6 +115,6 @@ pub record Prepared (net : Net) (run : Run) (edges : List ℕ) : Type 0 where
   pub runs : Running (core_of net) (arrays_of run) run.table.used net.plan.threads net.plan.places net.plan.levels edges
 
 -- that, or the first broken rule
-abbrev pub Prepares : Net → List ℕ → Result Run NetRule → Type 0
-Prepares net edges (Ok run) = Prepared net run edges
-Prepares net edges (Err rule) = rule_number rule ≡ broken net
+abbrev pub Prepares : Net → List ℕ → Run → Result Unit NetRule → Type 0
+Prepares net edges run (Ok kept) = Prepared net run edges
+Prepares net edges run (Err rule) = rule_number rule ≡ broken net

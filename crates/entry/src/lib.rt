@@ -4,12 +4,13 @@
 
 ghost use Rattle.model.specs.PlanValue.{records_of};
 ghost use Rattle.faults.specs.Seen.{Edging};
-ghost use Rattle.entry.specs.Entry.{RecordRule, PlanRules, NumberTested, NumberRules, CallTested, CallRules, SiteTested, SiteRules, Prepares};
+ghost use Rattle.entry.specs.Entry.{RecordRule, PlanRules, NumberTested, NumberRules, CallTested, CallRules, SiteTested, SiteRules, Blank, Prepares};
 
 use ids::{Node, Ticket};
 use links::Rows;
 use model::Plan;
 use moves::Running;
+use rooms::Rooms;
 use table::Table;
 use value::{Net, NetRule};
 
@@ -66,29 +67,41 @@ fn call_rules(net: &Net, table: &Table, edges: &Rows) -> Result<(), NetRule>
     Ok(())
 }
 
-// The rules on the sites and on the waiting calls; the run holds the rooms.
-fn site_rules(net: &Net, table: Table) -> Result<Running, NetRule>
-    requires { SiteTested net.now table }
-    ensures { SiteRules net.now table result }
+// The rules on the sites and on the waiting calls; the rooms are filled in.
+fn site_rules(net: &Net, running: &mut Running) -> Result<(), NetRule>
+    requires { SiteTested net.now running.old }
+    ensures { SiteRules net.now running.old running.new result }
 {
-    let Some(rooms) = tally::rooms_of(&net.counts, &net.plan) else {
+    let Some(()) = tally::fill_rooms(&net.counts, &net.plan, &mut running.rooms) else {
         return Err(NetRule::Sites);
     };
-    let running = Running { table, rooms };
-    if !rules::settled(&running, &net.plan) {
+    if !rules::settled(running, &net.plan) {
         return Err(NetRule::Waiting);
     }
-    Ok(running)
+    Ok(())
 }
 
-// All rules; where none is broken a run holds the net. The edges are its plan's.
-pub fn prepare(net: &Net, edges: &Rows) -> Result<Running, NetRule>
-    requires { Edging (records_of net.now.plan) edges.now.rows }
-    ensures { Prepares net.now edges.now.rows result }
+// A run that holds no net yet.
+pub fn blank() -> Running
+    ensures { Blank result }
+{
+    Running {
+        table: Table::empty(),
+        rooms: Rooms::without_limit(),
+    }
+}
+
+// All rules; where none is broken the run, which holds no net yet, holds this one. The edges are its plan's.
+// kept: the run is lent to be filled, and so are its table and its rooms. Answered by value within the Result, a single command on the small load took 26,042
+// instructions where it took 14,735 before, and takes 16,791 so.
+pub fn prepare(net: &Net, edges: &Rows, running: &mut Running) -> Result<(), NetRule>
+    requires edged { Edging (records_of net.now.plan) edges.now.rows }
+    requires blank { Blank running.old }
+    ensures { Prepares net.now edges.now.rows running.new result }
 {
     plan_rules(net)?;
-    let table = apart::table(net);
-    number_rules(net, &table)?;
-    call_rules(net, &table, edges)?;
-    site_rules(net, table)
+    apart::fill(net, &mut running.table);
+    number_rules(net, &running.table)?;
+    call_rules(net, &running.table, edges)?;
+    site_rules(net, running)
 }

@@ -43,8 +43,8 @@ pub fn check(net: Net) -> Result<(), NetRule>
     ensures { rule_told result ≡ broken net }
 {
     let edges = links::call_rows(net.plan);
-    entry::prepare(&net, &edges)?;
-    Ok(())
+    let mut running = entry::blank();
+    entry::prepare(&net, &edges, &mut running)
 }
 
 // A start, a call, a return or a taking back, by its request.
@@ -53,12 +53,13 @@ fn command(net: Net, request: Request) -> Commanded
     ensures { CommandTold net request result }
 {
     let edges = links::call_rows(net.plan);
-    let Ok(mut running) = entry::prepare(&net, &edges) else {
+    let mut running = entry::blank();
+    if let Err(rule) = entry::prepare(&net, &edges, &mut running) {
         return Commanded {
-            answer: Err(Refusal::BrokenNet),
+            answer: Err(Refusal::from(rule)),
             net,
         };
-    };
+    }
     let done = turns::answer(&mut running, &net.plan, &edges, request);
     pack::handed(net, done, &running.table)
 }
@@ -122,7 +123,8 @@ pub fn room(net: Net, site: Site, level: Level) -> Result<u16, Refusal>
     ensures { result ≡ room_answered net site.0 level.0 }
 {
     let edges = links::call_rows(net.plan);
-    let running = entry::prepare(&net, &edges)?;
+    let mut running = entry::blank();
+    entry::prepare(&net, &edges, &mut running)?;
     let said = steps::room(&running.rooms, &net.plan, site.0, level.0)?;
     Ok(room_of(said))
 }

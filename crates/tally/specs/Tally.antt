@@ -130,9 +130,9 @@ abbrev pub Roomable : List ℕ → List ℕ → Type 0
 Roomable numbers most-of = (rs : List Record) × (cs : List Call) × CanRoom rs cs numbers most-of
 
 -- the rooms of lawful sites, or none where a site is not lawful
-abbrev pub RoomsTold : List Record → List Call → Option Rooms → Type 0
-RoomsTold rs cs (Some rooms) = (true ≡ all_lawful (record { plan = rs; calls = cs })) × RoomsTell rs (counts rs cs) rooms.left
-RoomsTold rs cs None = false ≡ all_lawful (record { plan = rs; calls = cs })
+abbrev pub RoomsTold : List Record → List Call → Rooms → Option Unit → Type 0
+RoomsTold rs cs rooms (Some done) = (true ≡ all_lawful (record { plan = rs; calls = cs })) × RoomsTell rs (counts rs cs) rooms.left
+RoomsTold rs cs rooms None = false ≡ all_lawful (record { plan = rs; calls = cs })
 
-abbrev pub RoomsOf : List ℕ → List ℕ → Option Rooms → Type 0
-RoomsOf numbers most-of r = (rs : List Record) (cs : List Call) → CanRoom rs cs numbers most-of → RoomsTold rs cs r
+abbrev pub RoomsOf : List ℕ → List ℕ → Rooms → Option Unit → Type 0
+RoomsOf numbers most-of rooms r = (rs : List Record) (cs : List Call) → CanRoom rs cs numbers most-of → RoomsTold rs cs rooms r

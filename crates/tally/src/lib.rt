@@ -3,6 +3,7 @@
 
 ghost use Rattle.std.specs.Prelude.{◌≡◌, ◌*◌, length};
 ghost use Rattle.ids.specs.Limits.{sites, most_threads};
+ghost use Rattle.rooms.specs.Rooms.{NoLimit};
 ghost use Rattle.tally.specs.Tally.{Raisable, Raises, Countable, Counts, KeptTested, KeptTest, SiteRoomable, SiteRooms, Roomable, RoomsOf};
 
 use ids::Site;
@@ -61,14 +62,14 @@ fn site_rooms(counts: &[u8], base: usize, threads: u8, rooms: &mut Rooms) -> Opt
     Some(())
 }
 
-// The rooms of all sites; none where a site is not lawful.
-pub fn rooms_of(counts: &[u8], plan: &Plan) -> Option<Rooms>
-    requires { Roomable counts.now plan.now.threads }
-    ensures { RoomsOf counts.now plan.now.threads result }
+// The rooms of all sites, where no level has a limit yet; none where a site is not lawful.
+pub fn fill_rooms(counts: &[u8], plan: &Plan, rooms: &mut Rooms) -> Option<()>
+    requires counted { Roomable counts.now plan.now.threads }
+    requires unlimited { NoLimit rooms.old }
+    ensures { RoomsOf counts.now plan.now.threads rooms.new result }
 {
-    let mut rooms = Rooms::without_limit();
     for site in 0..Site::COUNT {
-        site_rooms(counts, Site::THREADS * site, plan.threads[site], &mut rooms)?;
+        site_rooms(counts, Site::THREADS * site, plan.threads[site], rooms)?;
     }
-    Some(rooms)
+    Some(())
 }

@@ -51,7 +51,8 @@ pub fn run(net: Net, bytes: &[u8], from: usize, text: &mut [u8]) -> NetRan
     ensures { NetRuns net bytes.now from text.old text.new result }
 {
     let edges = links::call_rows(net.plan);
-    let Ok(mut running) = entry::prepare(&net, &edges) else {
+    let mut running = entry::blank();
+    let Ok(()) = entry::prepare(&net, &edges, &mut running) else {
         return NetRan {
             net,
             at: from,

@@ -6,8 +6,8 @@ use Rattle.entry.proofs.HeldLaws.{can_room, settled-seen}
 use Rattle.std.proofs.lemmas.Bool.{not_from_false, not_from_true}
 use Rattle.entry.proofs.site_rules.Goals as goal
 
-pub rooms_of-requires : goal.rooms_of-requires
-rooms_of-requires c = (_, _, can_room c.args.net.now c.requires.call_kept)
+pub fill_rooms-requires-clause-counted : goal.fill_rooms-requires-clause-counted
+fill_rooms-requires-clause-counted c = (_, _, can_room c.args.net.now c.requires.call_kept)
 
 pub returns-in_default : goal.returns-in_default
 returns-in_default c = let net = c.args.net.now in

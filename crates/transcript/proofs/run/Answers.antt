@@ -5,8 +5,8 @@ use Rattle.transcript.proofs.RanLaws.{refused_run, ran_on, run_packing}
 use borrow.Author.Rules.{rules}
 use Rattle.transcript.proofs.run.Goals as goal
 
-pub prepare-requires : goal.prepare-requires
-prepare-requires c = edging c.args.net (search rules) c.call_rows-edges.ensures
+pub prepare-requires-clause-edged : goal.prepare-requires-clause-edged
+prepare-requires-clause-edged c = edging c.args.net (search rules) c.call_rows-edges.ensures
 
 pub returns-in_default : goal.returns-in_default
 returns-in_default c = refused_run c.args.net _ c.in_default.ensures

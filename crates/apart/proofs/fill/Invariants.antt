@@ -1,6 +1,6 @@
--- `apart::table` meets its contract: up to the place where the loop stands the arrays hold the first calls, with their keys. Assumes nothing.
+-- `apart::fill` meets its contract: up to the place where the loop stands the arrays hold the first calls, with their keys. Assumes nothing.
 use Rattle.apart.specs.Apart.{Holding, Known, Keyed}
-use Rattle.apart.proofs.table.Given as goal
+use Rattle.apart.proofs.fill.Given as goal
 
 abbrev pub invariant-loop-i : goal.invariant-loop-i
 invariant-loop-i l =

@@ -1,4 +1,4 @@
--- `tally::rooms_of` meets its contract: whichever net the counts are of, the rooms of the sites before the loop's are told. Assumes nothing.
+-- `tally::fill_rooms` meets its contract: whichever net the counts are of, the rooms of the sites before the loop's are told. Assumes nothing.
 use mathlib.Core.Path.{◌≡◌}
 use mathlib.Core.List.{List}
 use lib.ListN.{length}
@@ -6,7 +6,7 @@ use Rattle.model.specs.Plan.{Record}
 use Rattle.model.specs.Net.{Call}
 use Rattle.tally.specs.Tally.{CanRoom}
 use Rattle.tally.proofs.RoomLaws.{RoomsTo}
-use Rattle.tally.proofs.rooms_of.Given as goal
+use Rattle.tally.proofs.fill_rooms.Given as goal
 
 abbrev pub invariant-loop-site : goal.invariant-loop-site
 invariant-loop-site l =
