@@ -43,15 +43,23 @@ module _ (look : List Record → ℕ) (f : ℕ → Option Record) (rs : List Rec
     counted k e =
         counted_to k (omega arith) ∙ ap (λ (l : List ℕ). count_by p l + look rs) (take_all k xs (omega arith))
 
-module _ (p : Plan) (sized : Sized p) where
-  pub sites_counted : count_by (λ t. not (eqb t 0)) p.threads ≡ site_count p
-  unfolding site_count
-  sites_counted =
+module _ (p : Plan) where
+  -- the sites below k, and the nodes
+
+  unfoldable pub sites_up_to : ℕ → ℕ
+  sites_up_to k = length (sites_of (each (site_at p.threads) k []))
+
+  unfoldable pub nodes_up_to : ℕ → ℕ
+  nodes_up_to k = length (listed (each (node_at p.places p.levels) k (its_sites p)))
+
+  -- all of them are the plan's: records of another kind count for nothing
+
+  pub sites_together : sites_up_to sites ≡ site_count p
+  unfolding sites_up_to site_count
+  sites_together =
       sym (ap count (records_each p)
       ∙ each_skip count (edge_at p.pairs) (min p.edges most_edges) (its_nodes p) (λ i qs l. refl)
-      ∙ each_skip count (node_at p.places p.levels) nodes (its_sites p) (λ i qs l. no_site i qs (somewhere (get_or p.places i nowhere)))
-      ∙ counted count (site_at p.threads) [] (λ t. not (eqb t 0)) p.threads (λ i l qs. one i qs (eqb (get_or p.threads i 0) 0)) sites sized.threads
-      ∙ add-zero _)
+      ∙ each_skip count (node_at p.places p.levels) nodes (its_sites p) (λ i qs l. no_site i qs (somewhere (get_or p.places i nowhere))))
     where
       count : List Record → ℕ
       count rs = length (sites_of rs)
@@ -61,42 +69,62 @@ module _ (p : Plan) (sized : Sized p) where
       no_site i qs true = refl
       no_site i qs false = refl
 
-      one : (i : ℕ) (qs : List Record) (b : Bool)
-          → count (push (cond b none (some (site i (get_or p.threads i 0)))) qs) ≡ cond (not b) (suc (count qs)) (count qs)
-      one i qs true = refl
-      one i qs false = refl
-
-  -- the code reads 0 past an array's end, where the definition says nowhere: within the array they agree
-  pub nodes_counted : count_by somewhere p.places ≡ node_count p
-  unfolding node_count listed
-  nodes_counted =
-      sym (ap count (records_each p)
-      ∙ each_skip count (edge_at p.pairs) (min p.edges most_edges) (its_nodes p) (λ i qs l. refl)
-      ∙ counted count (node_at p.places p.levels) (its_sites p) somewhere p.places
-      (λ i l qs.
-      one i qs (somewhere (get_or p.places i nowhere))
-      ∙ ap (λ (s : ℕ). cond (somewhere s) (suc (count qs)) (count qs)) (get_or_inside p.places i nowhere 0 l))
-      nodes sized.places
-      ∙ ap (λ (n : ℕ). count_by somewhere p.places + n)
-      (each_skip count (site_at p.threads) sites [] (λ i qs l. no_node i qs (eqb (get_or p.threads i 0) 0)))
-      ∙ add-zero _)
+  pub nodes_together : nodes_up_to nodes ≡ node_count p
+  unfolding nodes_up_to node_count listed
+  nodes_together =
+      sym (ap count (records_each p) ∙ each_skip count (edge_at p.pairs) (min p.edges most_edges) (its_nodes p) (λ i qs l. refl))
     where
       count : List Record → ℕ
       count rs = length (listed rs)
 
-      no_node : (i : ℕ) (qs : List Record) (b : Bool)
-          → count (push (cond b none (some (site i (get_or p.threads i 0)))) qs) ≡ count qs
-      no_node i qs true = refl
-      no_node i qs false = refl
+  module _ (sized : Sized p) where
+    -- so each is the count of the entries that stand for a record
 
-      one : (i : ℕ) (qs : List Record) (b : Bool)
-          → count (push (cond b (some (node i (get_or p.places i nowhere) (get_or p.levels i 0))) none) qs) ≡ cond b (suc (count qs)) (count qs)
-      one i qs true = refl
-      one i qs false = refl
+    pub sites_counted : count_by (λ t. not (eqb t 0)) p.threads ≡ site_count p
+    unfolding sites_up_to
+    sites_counted =
+        sym (counted count (site_at p.threads) [] (λ t. not (eqb t 0)) p.threads (λ i l qs. one i qs (eqb (get_or p.threads i 0) 0)) sites sized.threads
+        ∙ add-zero _)
+        ∙ sites_together
+      where
+        count : List Record → ℕ
+        count rs = length (sites_of rs)
 
-  -- and there are not many
-  pub sites_few : site_count p ≤ sites
-  sites_few = omega (arith, sites_counted, count_by-le-length (λ (t : ℕ). not (eqb t 0)) p.threads, sized.threads)
+        one : (i : ℕ) (qs : List Record) (b : Bool)
+            → count (push (cond b none (some (site i (get_or p.threads i 0)))) qs) ≡ cond (not b) (suc (count qs)) (count qs)
+        one i qs true = refl
+        one i qs false = refl
 
-  pub nodes_few : node_count p ≤ nodes
-  nodes_few = omega (arith, nodes_counted, count_by-le-length somewhere p.places, sized.places)
+    -- the code reads 0 past an array's end, where the definition says nowhere: within the array they agree
+    pub nodes_counted : count_by somewhere p.places ≡ node_count p
+    unfolding nodes_up_to listed
+    nodes_counted =
+        sym (counted count (node_at p.places p.levels) (its_sites p) somewhere p.places
+        (λ i l qs.
+        one i qs (somewhere (get_or p.places i nowhere))
+        ∙ ap (λ (s : ℕ). cond (somewhere s) (suc (count qs)) (count qs)) (get_or_inside p.places i nowhere 0 l))
+        nodes sized.places
+        ∙ ap (λ (n : ℕ). count_by somewhere p.places + n)
+        (each_skip count (site_at p.threads) sites [] (λ i qs l. no_node i qs (eqb (get_or p.threads i 0) 0)))
+        ∙ add-zero _)
+        ∙ nodes_together
+      where
+        count : List Record → ℕ
+        count rs = length (listed rs)
+
+        no_node : (i : ℕ) (qs : List Record) (b : Bool)
+            → count (push (cond b none (some (site i (get_or p.threads i 0)))) qs) ≡ count qs
+        no_node i qs true = refl
+        no_node i qs false = refl
+
+        one : (i : ℕ) (qs : List Record) (b : Bool)
+            → count (push (cond b (some (node i (get_or p.places i nowhere) (get_or p.levels i 0))) none) qs) ≡ cond b (suc (count qs)) (count qs)
+        one i qs true = refl
+        one i qs false = refl
+
+    -- and there are not many
+    pub sites_few : site_count p ≤ sites
+    sites_few = omega (arith, sites_counted, count_by-le-length (λ (t : ℕ). not (eqb t 0)) p.threads, sized.threads)
+
+    pub nodes_few : node_count p ≤ nodes
+    nodes_few = omega (arith, nodes_counted, count_by-le-length somewhere p.places, sized.places)

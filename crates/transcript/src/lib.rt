@@ -9,6 +9,7 @@ use runs::Stop;
 use value::Net;
 
 // Why a run stopped.
+// kept: a Result over the inner crate's `Stop` would have callers name a crate that is not theirs to use.
 #[derive(Clone, Copy, PartialEq, Eq)]
 pub enum Halt {
     // The text has less room than a line may take.
