@@ -23,6 +23,7 @@ const PIECES: usize = usize::MAX;
 
 // Where the program stands: its net, the bytes that it holds, the place of the next command in them, the offset of the first of them in the whole input,
 // and how many commands were answered.
+// kept: the bytes stand in a fixed buffer with how many they are, since nothing here is on a heap.
 #[derive(Clone, Copy)]
 struct Stand {
     net: Net,

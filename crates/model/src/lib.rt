@@ -59,6 +59,8 @@ pub struct Edge {
 
 // A plan by its numbers: the threads of each site, 0 where it has no record; the site of each node, `Plan::NOWHERE` where it has no record (any
 // other number is a record, also where it is no site), and its level; and the call edges in their order. What no record has set is as in the empty plan.
+// kept: anybody may hand in any numbers, so levels of unlisted nodes, pairs behind the count and a count past the array are values too, and an Option for a node or
+// a slice for the pairs would leave them out. The arrays are fixed, since nothing here is on a heap.
 #[derive(Clone, Copy, PartialEq, Eq)]
 pub struct Plan {
     pub threads: [u8; Site::COUNT],
@@ -74,7 +76,7 @@ impl Plan {
     pub const FILE: usize = 3 * Site::COUNT + 4 * Node::COUNT + 3 * Node::EDGES + 1;
 }
 
-// A record of a plan file.
+// A record of a plan file; the end record is one of its kinds.
 #[derive(Clone, Copy)]
 pub enum PlanRecord {
     Site(Site, u8),

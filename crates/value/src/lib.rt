@@ -20,6 +20,7 @@ pub struct Call {
 
 // The plan; the open calls in the order of their opening, and how many there are; and for each site the active calls of each level, those of site s
 // from place 64 s on. A place behind the open calls is spare: what it holds is not looked at, and a command leaves zeros and `false` there.
+// kept: an array with its count, since nothing here is on a heap, and anybody may hand in a count past the array, which is a rule of its own.
 #[derive(Clone, Copy, PartialEq, Eq)]
 pub struct Net {
     pub plan: Plan,
