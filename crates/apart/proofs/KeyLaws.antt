@@ -5,10 +5,9 @@ use mathlib.Core.Bool.{Bool, true, false, cond}
 use mathlib.Core.List.{List, Memᴰ}
 use lib.ListN.{get_or}
 use Rattle.ids.specs.Limits.{most_threads}
-use Rattle.model.specs.PlanValue.{records_of}
+use Rattle.model.specs.PlanValue.{Sized, records_of}
 use Rattle.model.specs.Net.{Call, has_node}
 use Rattle.model.specs.declared.Plan.{Plan}
-use Rattle.model.proofs.HeldLaws.{Sized}
 use Rattle.moves.specs.Held.{key_of}
 use Rattle.value.proofs.NodeLaws.{site_there, level_there}
 use Rattle.lists.proofs.PlaceLaws.{member_there}

@@ -13,9 +13,9 @@ use Rattle.ids.specs.Limits.{sites, most_threads, nodes, most_edges}
 use Rattle.lists.specs.Count.{every}
 use Rattle.model.specs.Plan.{Record, site, node, edge, push, threads, place, present, edges, follows, in_range, known, level_below, room_for}
 use Rattle.model.specs.Plan.{six, record_fault, passes}
-use Rattle.model.specs.PlanValue.{pair_at, nowhere, somewhere, each, site_at, node_at, edge_at, records_of}
+use Rattle.model.specs.PlanValue.{Sized, pair_at, nowhere, somewhere, each, site_at, node_at, edge_at, records_of}
 use Rattle.model.specs.declared.Plan.{Plan}
-use Rattle.model.proofs.HeldLaws.{Sized, each_skip, its_sites, its_nodes, records_each, threads_of, place_of, present-held}
+use Rattle.model.proofs.HeldLaws.{each_skip, its_sites, its_nodes, records_each, threads_of, place_of, present-held}
 use Rattle.record.specs.Step.{listed_node}
 use Rattle.audit.specs.Audits.{records_pass}
 use Rattle.audit.specs.Fits.{site_fits, node_fits, pair_fits, edge_fits, sites_fit, nodes_fit, edges_fit}

@@ -14,9 +14,9 @@ use Rattle.lists.proofs.CountLaws.{get_or_inside}
 use Rattle.ids.specs.Limits.{nodes}
 use Rattle.model.specs.Graph.{either}
 use Rattle.model.specs.Plan.{Place, site_steps, descends}
-use Rattle.model.specs.PlanValue.{nowhere, somewhere, records_of, held}
+use Rattle.model.specs.PlanValue.{Sized, nowhere, somewhere, records_of, held}
 use Rattle.model.specs.declared.Plan.{Plan}
-use Rattle.model.proofs.HeldLaws.{Sized, place_of}
+use Rattle.model.proofs.HeldLaws.{place_of}
 use Rattle.words.specs.Words.{member, inserted}
 use Rattle.words.proofs.WordLaws.{member-inserted}
 use Rattle.links.specs.Rows.{linked, RowsTell}

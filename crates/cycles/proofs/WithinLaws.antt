@@ -16,11 +16,11 @@ use Rattle.ids.specs.Limits.{nodes}
 use Rattle.model.specs.Graph.{either, Reach, Depends}
 use Rattle.model.specs.Plan.{Record, Place, place, has_edge, site_steps, no_steps, descends, loops, self_depends}
 use Rattle.model.specs.Records.{RecordsOk}
-use Rattle.model.specs.PlanValue.{records_of}
+use Rattle.model.specs.PlanValue.{Sized, records_of}
 use Rattle.model.specs.declared.Plan.{Plan}
 use Rattle.model.proofs.GraphLaws.{or_cases, or_by_left, or_by_right, reach_more, depends_more, circle_edge, circle_loop}
 use Rattle.model.proofs.PlanLaws.{calls_listed, loops_is, self_depends-is}
-use Rattle.model.proofs.HeldLaws.{Sized, held_out, place_of}
+use Rattle.model.proofs.HeldLaws.{held_out, place_of}
 use Rattle.words.specs.Words.{member}
 use Rattle.words.proofs.WordLaws.{member_zero}
 use Rattle.links.specs.Rows.{linked, RowsTell}

@@ -9,12 +9,12 @@ use Rattle.ids.specs.Limits.{most_open}
 use Rattle.lists.specs.Tabled.{tabled}
 use Rattle.lists.proofs.CountLaws.{denied}
 use Rattle.lists.proofs.PickLaws.{all_at}
-use Rattle.model.specs.PlanValue.{records_of}
+use Rattle.model.specs.PlanValue.{Sized, records_of}
 use Rattle.model.specs.Net.{Call, has_node}
 use Rattle.model.specs.NetRules.{parent_kept, could_go, all_lawful}
 use Rattle.model.specs.Steady.{Firm}
 use Rattle.model.specs.declared.Plan.{Plan}
-use Rattle.model.proofs.HeldLaws.{Sized, threads_of}
+use Rattle.model.proofs.HeldLaws.{threads_of}
 use Rattle.model.proofs.NetRuleLaws.{differ-is, not_0_is, sites-all}
 use Rattle.table.specs.declared.Table.{Table}
 use Rattle.moves.specs.declared.Running.{Running as Run}

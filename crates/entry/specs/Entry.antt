@@ -3,11 +3,10 @@ use Rattle.std.specs.Prelude.{ℕ, ◌≤◌, ◌≡◌, true, false, not, List,
 use Rattle.ids.specs.Limits.{most_open, most_edges}
 use Rattle.lists.specs.Pick.{all}
 use Rattle.model.specs.Plan.{six, passes}
-use Rattle.model.specs.PlanValue.{records_of}
+use Rattle.model.specs.PlanValue.{Sized, records_of}
 use Rattle.model.specs.Net.{Call, has_node, counts}
 use Rattle.model.specs.NetRules.{parent_kept, could_go, tickets_kept, book_kept, all_lawful}
 use Rattle.model.specs.declared.Plan.{Plan}
-use Rattle.model.proofs.HeldLaws.{Sized}
 use Rattle.audit.specs.Audits.{records_pass}
 use Rattle.table.specs.Places.{Nothing}
 use Rattle.table.specs.declared.Table.{Table}

@@ -9,7 +9,7 @@ use ids::Ticket;
 use value::{Call, Net};
 
 // The first place below `used`, and inside the table, whose call has this ticket.
-// kept: the count is lent beside the slice, since it may be past the table's end.
+// kept: its promise is of any count, also one past the table's end, as a net that is handed in may have.
 pub fn find(calls: &[Call], used: usize, ticket: Ticket) -> Option<usize>
     ensures { result ≡ placed used (place_in calls.now used ticket.0) }
 {

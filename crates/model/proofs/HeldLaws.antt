@@ -14,16 +14,8 @@ use borrow.Author.Tests.{eqb-true, eq-eqb, ne_eqb}
 use Rattle.lists.proofs.CountLaws.{lt_or_ge}
 use Rattle.ids.specs.Limits.{sites, nodes, most_edges}
 use Rattle.model.specs.Plan.{Record, site, node, edge, Place, push, threads, place, present, has_edge}
-use Rattle.model.specs.PlanValue.{nowhere, somewhere, each, site_at, node_at, pair_at, edge_at, edge_records, records_of, held}
+use Rattle.model.specs.PlanValue.{Sized, nowhere, somewhere, each, site_at, node_at, pair_at, edge_at, edge_records, records_of, held}
 use Rattle.model.specs.declared.Plan.{Plan}
-
--- Lengths
-
-pub record Sized (p : Plan) : Type 0 where
-  pub threads : length p.threads ≡ sites
-  pub places : length p.places ≡ nodes
-  pub levels : length p.levels ≡ nodes
-  pub pairs : length p.pairs ≡ most_edges
 
 -- Enumerations: a record or none for each number below k, the latest first
 

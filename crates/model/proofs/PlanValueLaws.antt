@@ -13,12 +13,12 @@ use borrow.Author.Tests.{eqb-true, eqb-false, ne_eqb}
 use Rattle.ids.specs.Limits.{sites, most_threads, nodes, most_edges}
 use Rattle.model.specs.Plan.{Record, site, node, edge, edges_of, threads, Place, place, present, edges}
 use Rattle.model.specs.Records.{kind, RecordsOk}
-use Rattle.model.specs.PlanValue.{nowhere, somewhere, pair, empty_plan, value, each, site_at, node_at, edge_at, records_of, held}
+use Rattle.model.specs.PlanValue.{Sized, nowhere, somewhere, pair, empty_plan, value, each, site_at, node_at, edge_at, records_of, held}
 use Rattle.model.specs.declared.Edge.{Edge}
 use Rattle.model.specs.declared.Plan.{Plan}
 use Rattle.model.proofs.KindLaws.{never_falls, within_kind, in_edges}
 use Rattle.model.proofs.RecordLaws.{threads-listed, place-listed, without_latest}
-use Rattle.model.proofs.HeldLaws.{Sized, each_skip, each_same, each_more, its_sites, its_nodes, records_each, threads_of, place_of, present-held}
+use Rattle.model.proofs.HeldLaws.{each_skip, each_same, each_more, its_sites, its_nodes, records_each, threads_of, place_of, present-held}
 
 pub value_sized : (rs : List Record) → Sized (value rs)
 unfolding value empty_plan

@@ -1,6 +1,6 @@
 -- A plan as the value that holds it: the records stored one after the other in the empty plan, so that each plan has one value.
 -- Assumes nothing.
-use Rattle.std.specs.Prelude.{ℕ, zero, suc, ◌+◌, min, Bool, not, cond, List, [], ◌∷◌, get_or, replicate, set, eqb, Result, Ok, Err}
+use Rattle.std.specs.Prelude.{ℕ, zero, suc, ◌+◌, min, Bool, not, cond, List, [], ◌∷◌, get_or, replicate, set, eqb, Result, Ok, Err, ◌≡◌, length}
 use Rattle.std.proofs.Math.Option.{Option, none, some}
 use Rattle.ids.specs.Limits.{sites, nodes, most_edges}
 use Rattle.ids.specs.Made.{Told}
@@ -82,6 +82,13 @@ reading_told (refused_at number offset) = number ∷ offset ∷ []
 abbrev pub reading_plan : Reading → Plan
 reading_plan (accepted rs used) = value rs
 reading_plan (refused_at number offset) = empty_plan
+
+-- the arrays of a value are as long as its type has them
+pub record Sized (p : Plan) : Type 0 where
+  pub threads : length p.threads ≡ sites
+  pub places : length p.places ≡ nodes
+  pub levels : length p.levels ≡ nodes
+  pub pairs : length p.pairs ≡ most_edges
 
 -- The records that a plan's value holds, whoever made it: its sites, nodes and edges in the order of their numbers, the latest first. A site has a
 -- record where its threads are not 0, and a node where its place is not nowhere

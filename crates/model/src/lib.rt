@@ -1,5 +1,5 @@
 // The meaning of what the library answers, for a reader to believe: the types that everything speaks of, their definitions in specs/ and the
-// theorems in proofs/. No code but the numbers of the refusals.
+// theorems in proofs/. No code but conversions: the numbers of the refusals, and one refusal told as another.
 #![tactic(auto)]
 
 ghost use Rattle.std.specs.Prelude.{◌≡◌};

@@ -15,8 +15,8 @@ pub struct Running {
 }
 
 impl Running {
-    // kept: the numbers of the newcomer stand apart, since no other function takes these together.
     // Opens a call at a node: active where its level may be admitted, else waiting, last at its site. Its key is 0 already where it is active.
+    // kept: a struct of the newcomer's numbers would be filled in `steps` and emptied here, line for line what stands now.
     pub fn open(
         &mut self,
         parent: u16,

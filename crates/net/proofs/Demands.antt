@@ -17,7 +17,7 @@ use Rattle.model.specs.PlanValue.{records_of, value}
 use Rattle.model.specs.PlanFault.{plan_fault, checked_plan}
 use Rattle.model.specs.Net.{Core, admissible, in_the_way, empty_net}
 use Rattle.model.specs.NetRules.{Keeps}
-use Rattle.model.specs.Command.{Command, start, call, return, take_back, Answer, refused, active, waiting, ended, fault, done, opening, serving, withdrawing, step, run}
+use Rattle.model.specs.Command.{Command, start, call, return, take_back, Answer, refused, active, waiting, ended, fault, done, opening, serving, withdrawing, step, run, ask, room_at}
 use Rattle.model.specs.Demands.{Safe}
 use Rattle.model.specs.declared.Refusal.{Refusal}
 use Rattle.model.specs.declared.Plan.{Plan}
@@ -27,7 +27,8 @@ use Rattle.model.proofs.RecordLaws.{passes_ok}
 use Rattle.model.proofs.StepLaws.{accepted_step, refused_step, step_keeps, step_plan, empty_keeps}
 use Rattle.model.proofs.Demands.{demand_3}
 use Rattle.value.specs.View.{core_of, broken}
-use Rattle.value.specs.Handed.{value_of, answer_value, net_after, outcome_value, command_answered, make_answered}
+use Rattle.value.specs.Handed.{value_of, answer_value, net_after, outcome_value, command_answered, ask_answered, room_answered, make_answered, standing_value, room_value, told_command, told_ask, told_room}
+use Rattle.value.proofs.ToldLaws.{command_told, ask_told, room_told}
 use Rattle.value.specs.declared.Net.{Net}
 use Rattle.net.specs.Demands.{net_behind, ValueDemands}
 use Rattle.net.proofs.ValueLaws.{core_back, value_sound, sound_parts, sound_rules, rules_sound, sound_keeps}
@@ -156,11 +157,26 @@ same_net net c why e = go (eqb (broken net) 0) refl e
     go true q f = refused_back net (step (core_of net) c).core (step (core_of net) c).answer why f
     go false q f = refl
 
+-- a net that breaks no rule answers a question and a room by the model
+module _ (net : Net) (sound : broken net ≡ 0) where
+  asked_value : (ticket : ℕ) → ask_answered net ticket ≡ Ok (standing_value (ask (core_of net) ticket))
+  unfolding ask_answered
+  asked_value ticket = rw sound refl
+
+  room_back : (s k : ℕ) → room_answered net s k ≡ room_value (room_at (core_of net) s k)
+  unfolding room_answered
+  room_back s k = rw sound refl
+
 pub value_demands : ValueDemands
 value_demands =
     record {
       refused_same = same_net;
       answered = λ net sound c. (ap (λ r. r.answer) (is_outcome net sound c), (net_told net sound c).0);
+      answered_told = λ net sound. (
+        (λ c. ap (λ r. told_command r.answer) (is_outcome net sound c) ∙ command_told (core_of net) c),
+        (λ ticket. ap told_ask (asked_value net sound ticket) ∙ ask_told (ask (core_of net) ticket)),
+        λ s k. ap told_room (room_back net sound s k) ∙ room_told (core_of net) s k,
+      );
       folded = folds;
       sound_when = λ net. (sound_rules net, λ k. rules_sound net k.0 k.1);
       broken_19 = λ net bad. (

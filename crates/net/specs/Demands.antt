@@ -6,12 +6,12 @@ use Rattle.model.specs.Reading.{PlanOk}
 use Rattle.model.specs.PlanValue.{records_of}
 use Rattle.model.specs.Net.{empty_net}
 use Rattle.model.specs.NetRules.{NetRules}
-use Rattle.model.specs.Command.{Command, step, run}
+use Rattle.model.specs.Command.{Command, told, step, run, ask, told_standing, room_at, told_roomed}
 use Rattle.model.specs.declared.Refusal.{Refusal}
 use Rattle.model.specs.Demands.{Safe}
 use Rattle.model.specs.declared.Plan.{Plan}
 use Rattle.value.specs.View.{core_of, row_of, broken}
-use Rattle.value.specs.Handed.{answer_value, command_answered, ask_answered, room_answered, make_answered}
+use Rattle.value.specs.Handed.{answer_value, told_command, told_ask, told_room, command_answered, ask_answered, room_answered, make_answered}
 use Rattle.value.specs.declared.Net.{Net}
 
 -- the net behind some commands, each answered by the library
@@ -25,6 +25,11 @@ pub record ValueDemands : Type 0 where
   -- "Every start, call and return gets LIVE-P's answer .. and leaves the state that the paper and the rules define": those of `step`
   pub answered : (net : Net) → broken net ≡ 0 → (c : Command)
       → ((command_answered net c).answer ≡ answer_value (step (core_of net) c).answer) × (core_of (command_answered net c).net ≡ (step (core_of net) c).core)
+  -- and each answer, of questions and rooms too, by the number and the values that the model's has: no refusal is told by another's number
+  pub answered_told : (net : Net) → broken net ≡ 0
+      → ((c : Command) → told_command (command_answered net c).answer ≡ told (step (core_of net) c).answer)
+      × ((ticket : ℕ) → told_ask (ask_answered net ticket) ≡ told_standing (ask (core_of net) ticket))
+      × ((s k : ℕ) → told_room (room_answered net s k) ≡ told_roomed (room_at (core_of net) s k))
   -- folding the functions over any commands is the model's run, and no net that they hand back breaks a rule
   pub folded : (net : Net) → broken net ≡ 0 → (commands : List Command)
       → (core_of (net_behind net commands) ≡ run (core_of net) commands) × (broken (net_behind net commands) ≡ 0)

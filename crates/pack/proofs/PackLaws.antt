@@ -13,10 +13,9 @@ use Rattle.lists.proofs.CountLaws.{lt_or_ge}
 use Rattle.lists.proofs.TabledLaws.{tabled-is}
 use Rattle.model.specs.Site.{A}
 use Rattle.model.specs.Plan.{threads}
-use Rattle.model.specs.PlanValue.{records_of}
+use Rattle.model.specs.PlanValue.{Sized, records_of}
 use Rattle.model.specs.Net.{Call, counts}
 use Rattle.model.specs.declared.Plan.{Plan}
-use Rattle.model.proofs.HeldLaws.{Sized}
 use Rattle.model.proofs.SiteLaws.{A-step, A_down, lawful_at}
 use Rattle.model.proofs.PlaceLaws.{threads_most}
 use Rattle.model.proofs.AdmitLaws.{within}

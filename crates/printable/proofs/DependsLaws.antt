@@ -10,10 +10,9 @@ use borrow.Author.Tests.{eqb-true, eq-eqb}
 use Rattle.ids.specs.Limits.{nodes}
 use Rattle.model.specs.Graph.{either, Reach, Depends}
 use Rattle.model.specs.Plan.{has_edge, site_steps}
-use Rattle.model.specs.PlanValue.{records_of}
+use Rattle.model.specs.PlanValue.{Sized, records_of}
 use Rattle.model.specs.declared.Plan.{Plan}
 use Rattle.model.proofs.GraphLaws.{yes, is_true, reach_more, depends_edge, edge_depends}
-use Rattle.model.proofs.HeldLaws.{Sized}
 use Rattle.words.specs.Words.{member, inserted}
 use Rattle.words.proofs.WordLaws.{member_zero, member-inserted}
 use Rattle.links.specs.Rows.{linked}

@@ -39,7 +39,7 @@ fn called(calls: &Rows, set: u64) -> u64
 {
     let mut all = 0;
     let mut todo = set;
-    // kept: a set of nodes is stepped through by its trailing zeros, as document 01 has it.
+    // kept: the word is stepped through by its trailing zeros, as document 01 has it of such a row, and in the same words as in `graph`.
     while todo != 0 {
         all |= calls.rows[words::lowest(todo)];
         todo = words::without_lowest(todo);

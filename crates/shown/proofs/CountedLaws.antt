@@ -15,9 +15,9 @@ use Rattle.std.proofs.lemmas.List.Sums.{count_by-le-length, count_by_more_yes, c
 use Rattle.lists.proofs.CountLaws.{get_or_inside}
 use Rattle.ids.specs.Limits.{sites, nodes, most_edges}
 use Rattle.model.specs.Plan.{Record, site, node, push, sites_of, listed}
-use Rattle.model.specs.PlanValue.{nowhere, somewhere, each, site_at, node_at, edge_at}
+use Rattle.model.specs.PlanValue.{Sized, nowhere, somewhere, each, site_at, node_at, edge_at}
 use Rattle.model.specs.declared.Plan.{Plan}
-use Rattle.model.proofs.HeldLaws.{Sized, each_skip, its_sites, its_nodes, records_each}
+use Rattle.model.proofs.HeldLaws.{each_skip, its_sites, its_nodes, records_each}
 use Rattle.shown.specs.Heading.{site_count, node_count}
 
 -- A count of records grows by one where the entry at the number's place passes a test, and so it is the count of the entries that do

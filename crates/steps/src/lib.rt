@@ -50,7 +50,7 @@ fn entered(rooms: &Rooms, site: u8, level: u8, admitted: bool) -> Printed
 }
 
 // A call, or a start, which has no parent.
-// kept: the plan and the rows of its edges are lent side by side: the rows are made from it once a run, and the plan is the net's own.
+// kept: a struct of the plan and the rows of its edges would hold two references, for what two parameters say; the plan is the net's own, and the rows are made from it.
 pub fn enter(
     running: &mut Running,
     plan: &Plan,

@@ -9,10 +9,10 @@ use lib.ListN.{get_or}
 use Rattle.ids.specs.Limits.{nodes}
 use Rattle.lists.proofs.CountLaws.{lt_or_ge, never_both, get_or_inside}
 use Rattle.model.specs.Plan.{present}
-use Rattle.model.specs.PlanValue.{records_of, held, nowhere, somewhere}
+use Rattle.model.specs.PlanValue.{Sized, records_of, held, nowhere, somewhere}
 use Rattle.model.specs.Net.{has_node, place_site, place_level, site_of, level_of}
 use Rattle.model.specs.declared.Plan.{Plan}
-use Rattle.model.proofs.HeldLaws.{Sized, held_out, place_of, present-held}
+use Rattle.model.proofs.HeldLaws.{held_out, place_of, present-held}
 
 module _ (p : Plan) (sized : Sized p) (n : ℕ) where
   -- a record stands where the place is not nowhere

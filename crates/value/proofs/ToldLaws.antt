@@ -1,6 +1,10 @@
 -- The answers as values tell the numbers and the values that the model's answers have. The idea: each number of the commands' table names a refusal, which is
 -- told by it, and a refusal of a command is always one of the table. Assumes nothing.
-use Rattle.std.proofs.Common.{◌≡◌, ℕ, Bool, true, false, not, ◌&&◌, cond, [], ◌∷◌, refl, ap, eqb, ltb, Ok, Err}
+use Rattle.std.proofs.Common.{◌≡◌, ℕ, Bool, true, false, not, ◌&&◌, cond, [], ◌∷◌, refl, ap, eqb, ltb, Result, Ok, Err}
+use native.Mathlib.Omega.{arith}
+use mathlib.Core.Path.{sym, ◌∙◌}
+use Rattle.value.specs.View.{rule_number, rule_told}
+use Rattle.value.specs.declared.NetRule.{NetRule}
 use borrow.Author.Tests.{eqb-true, eqb-false}
 use Rattle.lists.specs.Pick.{all}
 use Rattle.lists.proofs.PickLaws.{all_at}
@@ -72,3 +76,32 @@ make_told p = go (eqb (plan_fault p) 0)
     go : (b : Bool) → told_make (cond b (Ok tt) (Err Refusal.BrokenPlan)) ≡ cond b 0 plan_refusal ∷ []
     go true = refl
     go false = refl
+
+-- A rule's number names it, and none is 0
+
+abbrev rule_numbered : ℕ → NetRule
+rule_numbered n =
+    cond (eqb n 1) NetRule.Plan
+    (cond (eqb n 2) NetRule.Tickets
+    (cond (eqb n 3) NetRule.Nodes
+    (cond (eqb n 4) NetRule.Parents
+    (cond (eqb n 5) NetRule.Counts
+    (cond (eqb n 6) NetRule.Sites
+    (cond (eqb n 7) NetRule.Waiting NetRule.TooManyOpen))))))
+
+rule_named : (rule : NetRule) → (rule_numbered (rule_number rule) ≡ rule) × (rule_number rule ≡ 0 → ⊥)
+rule_named NetRule.Plan = (refl, λ e. omega arith)
+rule_named NetRule.Tickets = (refl, λ e. omega arith)
+rule_named NetRule.Nodes = (refl, λ e. omega arith)
+rule_named NetRule.Parents = (refl, λ e. omega arith)
+rule_named NetRule.Counts = (refl, λ e. omega arith)
+rule_named NetRule.Sites = (refl, λ e. omega arith)
+rule_named NetRule.Waiting = (refl, λ e. omega arith)
+rule_named NetRule.TooManyOpen = (refl, λ e. omega arith)
+
+-- so that what a test of the rules tells determines its answer
+pub rule_injective : (x y : Result (Unit {0}) NetRule) → rule_told x ≡ rule_told y → x ≡ y
+rule_injective (Ok x) (Ok y) e = refl
+rule_injective (Ok x) (Err rule) e = absurd ((rule_named rule).1 (sym e))
+rule_injective (Err rule) (Ok y) e = absurd ((rule_named rule).1 e)
+rule_injective (Err a) (Err b) e = ap Err (sym (rule_named a).0 ∙ ap rule_numbered e ∙ (rule_named b).0)

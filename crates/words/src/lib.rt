@@ -1,5 +1,5 @@
 // A set of nodes in one word: node n is in it where bit n is set.
-// kept: functions on a plain u64 and no type of its own: rows are arrays of words, and a row of reached nodes is stepped through by its trailing zeros.
+// kept: functions on a plain u64, as document 01 has it, and no type of its own: rows are arrays of words, and a row of reached nodes is stepped through by its trailing zeros.
 #![tactic(auto)]
 
 ghost use Rattle.std.specs.Prelude.{◌≡◌};

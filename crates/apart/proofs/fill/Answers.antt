@@ -3,7 +3,7 @@ use native.Mathlib.Omega.{arith}
 use mathlib.Core.Path.{refl, ◌∙◌}
 use Rattle.apart.proofs.ApartLaws.{nothing_told, tells_next, holding_more}
 use Rattle.apart.proofs.KeyLaws.{key_told}
-use Rattle.model.proofs.HeldLaws.{Sized}
+use Rattle.model.specs.PlanValue.{Sized}
 use borrow.Author.Rules.{rules}
 use Rattle.apart.proofs.fill.Goals as goal
 

@@ -1,7 +1,7 @@
 -- `audit::passes` meets its contract: the count of edges, and then whether each entry of the arrays fits, which is whether the records pass.
 -- Assumes nothing.
 use Rattle.std.proofs.Common.{rules}
-use Rattle.model.proofs.HeldLaws.{Sized}
+use Rattle.model.specs.PlanValue.{Sized}
 use Rattle.audit.proofs.PassLaws.{too_many_fail, records-pass-is}
 use Rattle.audit.proofs.passes.Goals as goal
 

@@ -4,7 +4,7 @@ use native.Mathlib.Omega.{arith}
 use mathlib.Core.Path.{◌≡◌, subst}
 use borrow.Author.Rules.{rules}
 use Rattle.ids.specs.Limits.{nodes}
-use Rattle.model.proofs.HeldLaws.{Sized}
+use Rattle.model.specs.PlanValue.{Sized}
 use Rattle.cycles.proofs.StepLaws.{SteppingRows, rows_all, rows_plan}
 use Rattle.cycles.proofs.path_rows.Goals as goal
 

@@ -3,8 +3,7 @@ use mathlib.Core.Logic.Iff
 use borrow.Author.Rules.{rules}
 use Rattle.model.specs.Graph.{either}
 use Rattle.model.specs.Plan.{has_edge, site_steps}
-use Rattle.model.specs.PlanValue.{records_of}
-use Rattle.model.proofs.HeldLaws.{Sized}
+use Rattle.model.specs.PlanValue.{Sized, records_of}
 use Rattle.cycles.proofs.WithinLaws.{RowsWhole, paths_tell, circle_rows}
 use Rattle.cycles.proofs.self_depends.Goals as goal
 

@@ -6,8 +6,7 @@ use borrow.Author.Rules.{rules}
 use Rattle.ids.specs.Limits.{nodes}
 use Rattle.model.specs.Graph.{either, Depends}
 use Rattle.model.specs.Plan.{has_edge, site_steps}
-use Rattle.model.specs.PlanValue.{records_of}
-use Rattle.model.proofs.HeldLaws.{Sized}
+use Rattle.model.specs.PlanValue.{Sized, records_of}
 use Rattle.cycles.specs.Within.{within_nodes}
 use Rattle.cycles.proofs.WithinLaws.{RowsWhole, paths_tell}
 use Rattle.printable.proofs.TellLaws.{Filling, filling_more, filled_tells}

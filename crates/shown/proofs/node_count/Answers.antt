@@ -2,8 +2,7 @@
 use mathlib.Core.Path.{◌≡◌, ◌∙◌}
 use Rattle.std.proofs.Common.{rules}
 use Rattle.std.specs.List.{count_by}
-use Rattle.model.specs.PlanValue.{somewhere}
-use Rattle.model.proofs.HeldLaws.{Sized}
+use Rattle.model.specs.PlanValue.{Sized, somewhere}
 use Rattle.shown.proofs.CountedLaws.{nodes_counted}
 use Rattle.shown.proofs.node_count.Goals as goal
 

@@ -4,7 +4,7 @@ use mathlib.Core.Bool.{not}
 use lib.Dec.{eqb}
 use Rattle.std.proofs.Common.{rules}
 use Rattle.std.specs.List.{count_by}
-use Rattle.model.proofs.HeldLaws.{Sized}
+use Rattle.model.specs.PlanValue.{Sized}
 use Rattle.shown.proofs.CountedLaws.{sites_counted}
 use Rattle.shown.proofs.site_count.Goals as goal
 

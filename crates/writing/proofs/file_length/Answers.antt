@@ -3,7 +3,7 @@ use native.Mathlib.Omega.{arith}
 use Rattle.model.proofs.FileLaws.{file_length}
 use Rattle.shown.specs.Heading.{site_count, node_count}
 use Rattle.shown.proofs.CountedLaws.{sites_few, nodes_few}
-use Rattle.model.proofs.HeldLaws.{Sized}
+use Rattle.model.specs.PlanValue.{Sized}
 use Rattle.std.proofs.Common.{rules}
 use Rattle.writing.proofs.file_length.Goals as goal
 
