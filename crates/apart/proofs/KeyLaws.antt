@@ -27,7 +27,7 @@ pub key_in_waits : (places levels : List ℕ) (c : Call) → c.active ≡ false
 unfolding key_in
 key_in_waits places levels c e = sym (ap (λ (b : Bool). cond b 0 (most_threads * get_or places c.node 0 + get_or levels c.node 0 + 1)) e)
 
-key_is : (p : Plan) → Sized p → (c : Call) → has_node (records_of p) c.node ≡ true → key_in p.places p.levels c ≡ key_of (records_of p) c
+pub key_is : (p : Plan) → Sized p → (c : Call) → has_node (records_of p) c.node ≡ true → key_in p.places p.levels c ≡ key_of (records_of p) c
 unfolding key_in key_of
 key_is p sized c known =
     ap₂ (λ (s l : ℕ). cond c.active 0 (most_threads * s + l + 1)) (sym (site_there p sized c.node known)) (sym (level_there p sized c.node known))

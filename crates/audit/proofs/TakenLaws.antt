@@ -66,7 +66,7 @@ fault_on none rs bad = refl
 fault_on (some r) rs bad = fault_kept six rs r bad
 
 module _ (f : ℕ → Option Record) (rs : List Record) where
-  fault_stays : (n : ℕ) → (records_fault six rs ≡ 0 → ⊥) → records_fault six (each f n rs) ≡ records_fault six rs
+  pub fault_stays : (n : ℕ) → (records_fault six rs ≡ 0 → ⊥) → records_fault six (each f n rs) ≡ records_fault six rs
   fault_stays zero bad = refl
   fault_stays (suc n) bad =
       let so = fault_stays n bad in fault_on (f n) (each f n rs) (λ z. bad (sym so ∙ z)) ∙ so

@@ -34,7 +34,7 @@ impl Audit {
         ensures fault { told_check result ≡ value_fault self.old.plan.threads self.old.plan.places self.old.plan.edges self.old.last next }
         ensures taken { IsOk result → (self.new.plan ≡ stored_in self.old.plan next) × (self.new.last ≡ next) }
     {
-        record::check(&self.plan, self.last, next)?;
+        record::check_behind(&self.plan, self.last, next)?;
         record::store_in(&mut self.plan, next);
         self.last = next;
         Ok(())

@@ -95,8 +95,8 @@ fn close(rt: &HostRuntime, text: &mut [u8], why: Halt, commands: usize, offset: 
     let mut page = Page { text, at: 0 };
     match why {
         Halt::End => page.done_line(commands),
-        Halt::Cut => page.bad_line(BadInput::Cut, offset),
-        Halt::Unknown => page.bad_line(BadInput::Unknown, offset),
+        Halt::Cut => page.bad_line(u8::from(BadInput::Cut), offset),
+        Halt::Unknown => page.bad_line(u8::from(BadInput::Unknown), offset),
         Halt::Full | Halt::Broken => {}
     }
     let to = page.at;

@@ -60,7 +60,7 @@ module _ (T : ℕ) (a : List ℕ) where
     unfolding room_answer
     room_refused k = rw site_refused
 
-    firmware_refused : 255 ≡ firmware T a
+    pub firmware_refused : 255 ≡ firmware T a
     unfolding firmware
     firmware_refused = rw site_refused
 
@@ -86,7 +86,7 @@ module _ (T : ℕ) (a : List ℕ) where
         → 0 ∷ level_number highest ∷ w.stood ∷ [] ≡ level_answer T a
     level_highest below highest some so = ap (λ (l : ℕ). 0 ∷ l ∷ w.stood ∷ []) (numbered below highest w.leaf some so) ∙ level_walked
 
-    firmware_walked : w.leaf ≡ firmware T a
+    pub firmware_walked : w.leaf ≡ firmware T a
     unfolding firmware
     firmware_walked = rw told.0 ends
 

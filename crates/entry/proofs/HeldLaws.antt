@@ -151,7 +151,7 @@ module _ (net : Net) where
         }
 
   -- nothing is broken: the run holds the net
-  runs : {t : Table} {run : Run} {edges : List ℕ} → CallKept net → Tabled net t → SitesRun net t run → Edging (rs net) edges → Prepared net run edges
+  pub runs : {t : Table} {run : Run} {edges : List ℕ} → CallKept net → Tabled net t → SitesRun net t run → Edging (rs net) edges → Prepared net run edges
   unfolding core_of
   runs {t} {run} {edges} k tabled sites edging =
       record {

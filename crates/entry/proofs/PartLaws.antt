@@ -14,7 +14,7 @@ use Rattle.value.specs.declared.NetRule.{NetRule}
 use Rattle.entry.specs.Entry.{RecordRule, PlanRules}
 use Rattle.entry.proofs.BrokenLaws.{plan_fails}
 
-pass_is : (p : Plan) → p.edges ≤ most_edges → records_pass p ≡ passes six (records_of p)
+pub pass_is : (p : Plan) → p.edges ≤ most_edges → records_pass p ≡ passes six (records_of p)
 unfolding records_pass
 pass_is p h = ap (λ (b : Bool). b && passes six (records_of p)) (le-leb p.edges most_edges h)
 

@@ -12,6 +12,6 @@ pub extern "C" fn plan_refusal(bytes: &[u8]) -> u8
 {
     match plan::read(bytes).answer {
         Ok(_) => 0,
-        Err(fault) => u8::from(fault.why),
+        Err(fault) => plan::refusal_number(fault.why),
     }
 }

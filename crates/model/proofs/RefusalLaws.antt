@@ -7,6 +7,7 @@ use lib.Dec.{eqb}
 use Rattle.std.specs.Prelude.{Result, Ok, Err}
 use Rattle.model.specs.PlanValue.{refusal_number, told_read}
 use Rattle.model.specs.Refusal.{refusal_told, refusal_numbered}
+use Rattle.model.specs.Refusals.{plan_refusal, net_refusal}
 use Rattle.model.specs.declared.Refusal.{Refusal}
 use Rattle.model.specs.declared.PlanRefusal.{PlanRefusal}
 use Rattle.model.specs.declared.ReadFault.{ReadFault}
@@ -67,3 +68,10 @@ told_named Refusal.NotWaiting = (refl, λ e. omega arith)
 
 pub told_injective : (a b : Refusal) → refusal_told a ≡ refusal_told b → a ≡ b
 told_injective a b e = sym (told_named a).0 ∙ ap refusal_numbered e ∙ (told_named b).0
+
+-- the two rows of the table that stand outside the orders of the commands
+pub plan_named : refusal_numbered plan_refusal ≡ Refusal.BrokenPlan
+plan_named = refl
+
+pub net_named : refusal_numbered net_refusal ≡ Refusal.BrokenNet
+net_named = refl

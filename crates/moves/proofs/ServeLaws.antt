@@ -5,10 +5,11 @@ use native.Mathlib.Omega.{arith}
 use mathlib.Core.Path.{◌≡◌, refl, sym, ap, subst, ◌∙◌}
 use mathlib.Core.Bool.{Bool, cond}
 use mathlib.Core.List.{List}
-use mathlib.Core.Option.{Option, none, some}
+use mathlib.Core.Option.{Option as Maybe, none, some}
 use lib.ListN.{length, get_or, set}
 use borrow.Author.Tests.{eq-eqb, ne_eqb}
-use Rattle.ids.specs.Limits.{most_threads, most_open, no_ticket}
+use Rattle.std.specs.Prelude.{Option, Some, None}
+use Rattle.ids.specs.Limits.{most_threads, most_open}
 use Rattle.lists.specs.Count.{first}
 use Rattle.lists.specs.Fill.{Filled, renewed}
 use Rattle.lists.specs.Pick.{any, first_place}
@@ -22,7 +23,7 @@ use Rattle.model.proofs.CountsLaws.{more, counts-woken}
 use Rattle.model.proofs.FirmLaws.{to_wake_fits, woken_firm}
 use Rattle.table.specs.Places.{between}
 use Rattle.rooms.specs.Rooms.{no_room, one_less, Taking}
-use Rattle.moves.specs.Held.{Arrays, arrays, Held, Placed, CanServe, key_of}
+use Rattle.moves.specs.Held.{Arrays, arrays, Held, Placed, CanServe, key_of, served_told, ticket_given}
 use Rattle.moves.proofs.RoomLaws.{rooms-taken}
 use Rattle.moves.proofs.TableLaws.{tells_changed, tells_blind, told_there}
 use Rattle.moves.proofs.WakeLaws.{waiter_is}
@@ -46,7 +47,7 @@ module _ {rs : List Record} {cs : List Call} {a : Arrays} {used site most : ℕ}
           (e ∙ site_limit ok.held ok.site_inside ok.threads_are)
           ∙ waiter_is rs cs ok.held.firm ok.held.of_keys site
 
-      go : (o : Option Call) → to_wake rs cs site ≡ o → Wakes rs cs site at
+      go : (o : Maybe Call) → to_wake rs cs site ≡ o → Wakes rs cs site at
       go none h = nobody h (where_is ∙ ap (λ (b : Bool). cond b (first_place (may_wake rs cs site) cs) most_open) (any_not_found (may_wake rs cs site) cs h))
       go (some d) h =
           let here : at ≡ first_place (may_wake rs cs site) cs =
@@ -154,18 +155,23 @@ module _ {rs : List Record} {cs : List Call} {a : Arrays} {used site most : ℕ}
   chosen_takes w = subst (Taking a.rooms (most_threads * site)) w.level_told (wake_takes ok w.who at w.chosen w.here)
 
   pub served : Chosen → (rooms : List ℕ) → Filled (renewed one_less a.rooms) (most_threads * site) (most_threads * site + (chosen_level + 1)) a.rooms rooms
-      → (get_or a.tickets at 0 ≡ ticket_of (to_wake rs cs site))
+      → (Some (get_or a.tickets at 0) ≡ ticket_given (to_wake rs cs site))
       × Held rs (woken rs cs site) (arrays a.tickets a.parents (set a.keys at 0) a.nodes rooms) used
   served w rooms filled = (
-    ticket_is ok w.who at w.chosen w.here ∙ sym (ap ticket_of w.chosen),
+    ap Some (ticket_is ok w.who at w.chosen w.here) ∙ sym (ap ticket_given w.chosen),
     woken-held ok w.who at w.chosen w.here rooms
         (subst (λ (l : ℕ). Filled (renewed one_less a.rooms) (most_threads * site) (most_threads * site + (l + 1)) a.rooms rooms)
         (sym w.level_told) filled),
   )
 
-  pub unserved : at ≡ most_open → (no_ticket ≡ ticket_of (to_wake rs cs site)) × Held rs (woken rs cs site) a used
+  pub unserved : at ≡ most_open → (None ≡ ticket_given (to_wake rs cs site)) × Held rs (woken rs cs site) a used
   unserved e = go whom
     where
-      go : Wakes rs cs site at → (no_ticket ≡ ticket_of (to_wake rs cs site)) × Held rs (woken rs cs site) a used
-      go (nobody q r) = (sym (ap ticket_of q), nobody_woken ok q)
+      go : Wakes rs cs site at → (None ≡ ticket_given (to_wake rs cs site)) × Held rs (woken rs cs site) a used
+      go (nobody q r) = (sym (ap ticket_given q), nobody_woken ok q)
       go (somebody d q r inside) = absurd (omega (arith, ok.held.firm.few))
+
+-- the answer as a ticket's word, as a return prints it
+pub given_told : {answered : Option ℕ} (o : Maybe Call) → answered ≡ ticket_given o → served_told answered ≡ ticket_of o
+given_told none e = ap served_told e
+given_told (some c) e = ap served_told e

@@ -1,6 +1,7 @@
 -- What the arrays inside a run hold: the open calls of a net, number by number, and the rooms of its sites. For the contracts of `moves`.
 -- Assumes nothing.
-use Rattle.std.specs.Prelude.{ℕ, ◌+◌, ◌-◌, ◌*◌, ◌<◌, ◌≡◌, Bool, true, cond, List, length, get_or, ltb, Option}
+use Rattle.std.specs.Prelude.{ℕ, ◌+◌, ◌-◌, ◌*◌, ◌<◌, ◌≡◌, Bool, true, cond, List, length, get_or, ltb, Option, Some, None}
+use Rattle.std.proofs.Math.Option.{Option as Maybe, none, some}
 use Rattle.std.specs.Option.{unwrap_or}
 use Rattle.ids.specs.Limits.{sites, most_threads, most_open, no_ticket}
 use Rattle.lists.specs.Pick.{tell, first_place}
@@ -56,6 +57,11 @@ arrays_of r = arrays r.table.tickets r.table.parents r.table.keys r.table.nodes 
 -- a ticket, or the word for none
 abbrev pub served_told : Option ℕ → ℕ
 served_told answered = unwrap_or answered no_ticket
+
+-- the ticket of a call, or none
+abbrev pub ticket_given : Maybe Call → Option ℕ
+ticket_given none = None
+ticket_given (some c) = Some c.ticket
 
 -- the arrays hold the open calls of a net, which keep every rule but perhaps the one on waiting calls
 pub record Held (rs : List Record) (cs : List Call) (a : Arrays) (used : ℕ) : Type 0 where
@@ -116,7 +122,7 @@ pub record CanServe (rs : List Record) (cs : List Call) (a : Arrays) (used site 
 abbrev pub Servable : Arrays → ℕ → ℕ → ℕ → Type 0
 Servable a used site most = (rs : List Record) × (cs : List Call) × CanServe rs cs a used site most
 
-abbrev pub Serves : Arrays → Arrays → ℕ → ℕ → ℕ → ℕ → Type 0
-Serves a b ticket used site most =
+abbrev pub Serves : Arrays → Arrays → Option ℕ → ℕ → ℕ → ℕ → Type 0
+Serves a b answered used site most =
     (rs : List Record) (cs : List Call) → CanServe rs cs a used site most
-    → (ticket ≡ ticket_of (to_wake rs cs site)) × Held rs (woken rs cs site) b used
+    → (answered ≡ ticket_given (to_wake rs cs site)) × Held rs (woken rs cs site) b used

@@ -2,7 +2,7 @@
 #![tactic(auto)]
 
 ghost use Rattle.std.specs.Prelude.{◌≡◌, ◌+◌, ◌-◌};
-ghost use Rattle.moves.specs.Held.{arrays_of, served_told, Openable, Opens, Closable, Closes, Servable, Serves};
+ghost use Rattle.moves.specs.Held.{arrays_of, Openable, Opens, Closable, Closes, Servable, Serves};
 
 use rooms::Rooms;
 use table::Table;
@@ -57,7 +57,7 @@ impl Running {
     // Gives a thread to the oldest call that waits at a site and may be admitted; answers its ticket.
     pub fn serve(&mut self, site: u8, threads: u8) -> Option<u16>
         requires { Servable (arrays_of self.old) self.old.table.used site threads }
-        ensures served { Serves (arrays_of self.old) (arrays_of self.new) (served_told result) self.old.table.used site threads }
+        ensures served { Serves (arrays_of self.old) (arrays_of self.new) result self.old.table.used site threads }
         ensures counted { self.new.table.used ≡ self.old.table.used }
     {
         let base = Rooms::base(site);

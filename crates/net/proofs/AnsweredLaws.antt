@@ -19,7 +19,7 @@ use Rattle.model.specs.NetRules.{broken_rule}
 use Rattle.model.specs.Command.{Command, step, Standing, standing, ask, Roomed, has_room, room_refused, room_at}
 use Rattle.model.specs.declared.Refusal.{Refusal}
 use Rattle.model.specs.Refusal.{refusal_told, refusal_numbered}
-use Rattle.model.proofs.RefusalLaws.{told_named}
+use Rattle.model.proofs.RefusalLaws.{told_named, net_named}
 use Rattle.model.proofs.NetRuleLaws.{rules_exactly}
 use Rattle.model.proofs.StepLaws.{step_plan}
 use Rattle.moves.specs.Held.{Arrays, Held, arrays_of}
@@ -48,17 +48,20 @@ module _ (net : Net) where
     not_sound : eqb (broken net) 0 ≡ false
     not_sound = ne_eqb (broken net) 0 bad
 
+    abbrev left_alone : Refusal → Commanded
+    left_alone why = record { answer = Err why; net = net }
+
     pub broken_answered : (c : Command) → ◌≡◌ {A = Commanded} (record { answer = Err Refusal.BrokenNet; net = net }) (command_answered net c)
     unfolding command_answered
-    broken_answered c = sym (rw not_sound)
+    broken_answered c = ap left_alone (sym net_named) ∙ sym (rw not_sound)
 
     pub broken-asked : (t : ℕ) → Err Refusal.BrokenNet ≡ ask_answered net t
     unfolding ask_answered
-    broken-asked t = sym (rw not_sound)
+    broken-asked t = ap Err (sym net_named) ∙ sym (rw not_sound)
 
     pub broken-room : (s k : ℕ) → Err Refusal.BrokenNet ≡ room_answered net s k
     unfolding room_answered
-    broken-room s k = sym (rw not_sound)
+    broken-room s k = ap Err (sym net_named) ∙ sym (rw not_sound)
 
   -- None is broken
 

@@ -19,6 +19,8 @@ use Rattle.model.specs.Net.{Core, admissible, in_the_way, empty_net}
 use Rattle.model.specs.NetRules.{Keeps}
 use Rattle.model.specs.Command.{Command, start, call, return, take_back, Answer, refused, active, waiting, ended, fault, done, opening, serving, withdrawing, step, run, ask, room_at}
 use Rattle.model.specs.Demands.{Safe}
+use Rattle.model.specs.Refusal.{refusal_numbered}
+use Rattle.model.specs.Refusals.{net_refusal, plan_refusal}
 use Rattle.model.specs.declared.Refusal.{Refusal}
 use Rattle.model.specs.declared.Plan.{Plan}
 use Rattle.model.proofs.PlanFaultLaws.{plan_fault_none}
@@ -113,7 +115,7 @@ made_0 : (p : Plan) → ((make_answered p).answer ≡ Ok tt) ↔ (plan_fault p �
 unfolding make_answered
 made_0 p = go (eqb (plan_fault p) 0) refl
   where
-    go : (b : Bool) → eqb (plan_fault p) 0 ≡ b → (◌≡◌ {A = Result Unit Refusal} (cond b (Ok tt) (Err Refusal.BrokenPlan)) (Ok tt)) ↔ (plan_fault p ≡ 0)
+    go : (b : Bool) → eqb (plan_fault p) 0 ≡ b → (◌≡◌ {A = Result Unit Refusal} (cond b (Ok tt) (Err (refusal_numbered plan_refusal))) (Ok tt)) ↔ (plan_fault p ≡ 0)
     go true e = ((λ _. eqb-true (plan_fault p) 0 e), λ _. refl)
     go false e = ((λ q. cc), λ q. absurd (eqb-false (plan_fault p) 0 e q))
 
@@ -152,8 +154,8 @@ unfolding command_answered
 same_net net c why e = go (eqb (broken net) 0) refl e
   where
     go : (b : Bool) → eqb (broken net) 0 ≡ b
-        → (cond b (outcome_value net (step (core_of net) c)) (record { answer = Err Refusal.BrokenNet; net = net })).answer ≡ Err why
-        → (cond b (outcome_value net (step (core_of net) c)) (record { answer = Err Refusal.BrokenNet; net = net })).net ≡ net
+        → (cond b (outcome_value net (step (core_of net) c)) (record { answer = Err (refusal_numbered net_refusal); net = net })).answer ≡ Err why
+        → (cond b (outcome_value net (step (core_of net) c)) (record { answer = Err (refusal_numbered net_refusal); net = net })).net ≡ net
     go true q f = refused_back net (step (core_of net) c).core (step (core_of net) c).answer why f
     go false q f = refl
 
@@ -184,6 +186,8 @@ value_demands =
         (λ ticket. sym (broken-asked net bad ticket)),
         λ s k. sym (broken-room net bad s k),
       );
+      number_18 = refl;
+      number_19 = refl;
       made_when = λ p. ((λ e. accepted_plan p e), λ ok. (made_0 p).1 ((plan_fault_none p).1 ok));
       made_empty = made_told;
       always_safe = λ p none commands.

@@ -16,7 +16,8 @@ use Rattle.model.specs.declared.Plan.{Plan}
 use Rattle.model.specs.declared.Refusal.{Refusal}
 use Rattle.model.specs.declared.PlanRefusal.{PlanRefusal}
 use Rattle.model.specs.PlanValue.{refusal_number}
-use Rattle.model.proofs.RefusalLaws.{refusal_named}
+use Rattle.model.specs.PlanFault.{plan_fault}
+use Rattle.model.proofs.RefusalLaws.{refusal_named, plan_named}
 use Rattle.std.specs.Result.{MatchResult}
 use borrow.Author.Tests.{ne_eqb}
 use Rattle.record.specs.Step.{told_check}
@@ -76,7 +77,9 @@ pub made-is : (p : Plan) (audited : Audited) (answer : Result Unit Refusal) (net
 unfolding make_answered
 made-is p audited answer net audits e f =
     ap₂ (λ (a : Result Unit Refusal) (m : Net). record { answer = a; net = m })
-    (e ∙ ap (λ (n : ℕ). cond (eqb n 0) (Ok tt) (Err Refusal.BrokenPlan)) audits.fault_is)
+    (e
+    ∙ ap (λ (n : ℕ). cond (eqb n 0) (Ok tt) (Err Refusal.BrokenPlan)) audits.fault_is
+    ∙ ap (λ (why : Refusal). cond (eqb (plan_fault p) 0) (Ok tt) (Err why)) (sym plan_named))
     (f ∙ ap (λ (q : Plan). value_of q []) audits.plan_is)
 
 -- a fault is told by 18, and no fault by nothing

@@ -7,6 +7,8 @@ use Rattle.model.specs.PlanValue.{records_of}
 use Rattle.model.specs.Net.{empty_net}
 use Rattle.model.specs.NetRules.{NetRules}
 use Rattle.model.specs.Command.{Command, told, step, run, ask, told_standing, room_at, told_roomed}
+use Rattle.model.specs.Refusal.{refusal_told, refusal_numbered}
+use Rattle.model.specs.Refusals.{net_refusal, plan_refusal}
 use Rattle.model.specs.declared.Refusal.{Refusal}
 use Rattle.model.specs.Demands.{Safe}
 use Rattle.model.specs.declared.Plan.{Plan}
@@ -37,8 +39,11 @@ pub record ValueDemands : Type 0 where
   -- question and every room is answered 19, and the net handed back as it came
   pub sound_when : (net : Net) → (broken net ≡ 0) ↔ ((net.plan.edges ≤ most_edges) × NetRules (core_of net) (row_of net.counts))
   pub broken_19 : (net : Net) → (broken net ≡ 0 → ⊥)
-      → ((c : Command) → command_answered net c ≡ record { answer = Err Refusal.BrokenNet; net = net })
-      × ((ticket : ℕ) → ask_answered net ticket ≡ Err Refusal.BrokenNet) × ((s k : ℕ) → room_answered net s k ≡ Err Refusal.BrokenNet)
+      → ((c : Command) → command_answered net c ≡ record { answer = Err (refusal_numbered net_refusal); net = net })
+      × ((ticket : ℕ) → ask_answered net ticket ≡ Err (refusal_numbered net_refusal)) × ((s k : ℕ) → room_answered net s k ≡ Err (refusal_numbered net_refusal))
+  -- and the refusals of these two rows, 18 and 19, are told by the numbers that the table gives them
+  pub number_18 : refusal_told (refusal_numbered plan_refusal) ≡ plan_refusal
+  pub number_19 : refusal_told (refusal_numbered net_refusal) ≡ net_refusal
   -- a net is made exactly from a plan that is to be accepted, and it is empty and sound
   pub made_when : (p : Plan) → ((make_answered p).answer ≡ Ok tt) ↔ ((p.edges ≤ most_edges) × PlanOk (records_of p))
   pub made_empty : (p : Plan) → (make_answered p).answer ≡ Ok tt

@@ -2,12 +2,11 @@
 -- its site and level. Assumes nothing.
 use Prim.Native.Nat.{ℕ, ◌+◌, ◌*◌, ◌/◌, ◌%◌, ◌≤◌, ◌<◌}
 use native.Mathlib.Omega.{arith}
-use mathlib.Core.Path.{◌≡◌, sym, ap, ◌∙◌}
+use mathlib.Core.Path.{◌≡◌, sym, ap, subst, ◌∙◌}
 use mathlib.Core.Logic.{⊎_elim}
 use mathlib.Core.List.{List}
 use lib.ListN.{get_or}
-use Rattle.std.specs.Prelude.{Option, Some, None}
-use Rattle.std.specs.Option.{unwrap_or}
+use Rattle.std.specs.Prelude.{Option, Some, None, MatchOption}
 use Rattle.ids.specs.Limits.{sites, most_threads}
 use Rattle.lists.proofs.CountLaws.{lt_or_ge}
 use Rattle.lists.proofs.TabledLaws.{tabled-is}
@@ -66,9 +65,10 @@ module _ {plan : Plan} (sized : Sized plan) {cs : List Call} {t : Table} (ok : P
       (lt_or_ge 0 (threads (records_of plan) s))
 
   -- so that every count was held by its byte
-  counted : (r : Option (List ℕ)) (spare : List ℕ) → CountTold (records_of plan) cs r → CountsTell (records_of plan) cs (unwrap_or r spare)
-  counted (Some numbers) spare told = told
-  counted None spare over = absurd (omega (arith, over.many, few_active over.site over.level))
+  counted : (r : Option (List ℕ)) (numbers : List ℕ) → MatchOption r Unit (λ x. numbers ≡ x) → CountTold (records_of plan) cs r
+      → CountsTell (records_of plan) cs numbers
+  counted (Some held) numbers is told = subst (CountsTell (records_of plan) cs) (sym is) told
+  counted None numbers is over = absurd (omega (arith, over.many, few_active over.site over.level))
 
   counts-told : {numbers : List ℕ} → CountsTell (records_of plan) cs numbers → numbers ≡ counts_table (records_of plan) cs
   unfolding counts_table count_at
@@ -78,10 +78,11 @@ module _ {plan : Plan} (sized : Sized plan) {cs : List Call} {t : Table} (ok : P
       let there : most_threads * (i / most_threads) + i % most_threads ≡ i = omega arith in
       ap (λ (j : ℕ). get_or numbers j 0) (sym there) ∙ told.each (i / most_threads) (i % most_threads) (omega arith) (omega arith))
 
-  pub packed_is : {calls : List CallValue} (r : Option (List ℕ)) (spare : List ℕ) → CountTold (records_of plan) cs r → calls ≡ table_of cs
-      → ◌≡◌ {A = Net} (record { plan = plan; calls = calls; used = t.used; counts = unwrap_or r spare }) (value_of plan cs)
+  pub packed_is : {calls : List CallValue} (r : Option (List ℕ)) (numbers : List ℕ) → MatchOption r Unit (λ x. numbers ≡ x)
+      → CountTold (records_of plan) cs r → calls ≡ table_of cs
+      → ◌≡◌ {A = Net} (record { plan = plan; calls = calls; used = t.used; counts = numbers }) (value_of plan cs)
   unfolding value_of
-  packed_is {calls} r spare h e =
-      let f = counts-told (counted r spare h) in
+  packed_is {calls} r numbers is h e =
+      let f = counts-told (counted r numbers is h) in
       let u = ok.joining.count in
       cc

@@ -14,7 +14,7 @@ pub fn packed(plan: Plan, table: &Table) -> Net
     requires { Packable plan table.now }
     ensures { Packs plan table.now result }
 {
-    let counts = tally::count(table, &plan).unwrap_or([0; Site::COUNT * Site::THREADS]);
+    let counts = tally::count(table, &plan).unwrap_or_else(|| [0; Site::COUNT * Site::THREADS]);
     let calls = apart::join(table);
     let used = table.used;
     Net {

@@ -75,7 +75,7 @@ module _ (bytes : List ℕ) (plan : Plan) (last : PlanRecord) (at : ℕ) (way : 
       })
 
   -- what cannot be read
-  unread_stops : (why : PlanRefusal) → next_in bytes at ≡ Err why → scanned bytes ≡ refused_at (refusal_number why) at
+  pub unread_stops : (why : PlanRefusal) → next_in bytes at ≡ Err why → scanned bytes ≡ refused_at (refusal_number why) at
   unfolding fault_at
   unread_stops why e = refuses (refusal_number why) (refusal_named why).1 (go (next plan_kinds (drop at bytes)) e)
     where

@@ -26,7 +26,7 @@ fn passing<'a>(
     ensures { Turn bytes.now at plan.now last result }
 {
     let found = reader::record_at(bytes, at)?;
-    record::check(plan, last, found.next)?;
+    record::check_behind(plan, last, found.next)?;
     Ok(found)
 }
 

@@ -146,31 +146,44 @@ pub fn has_node(places: &[u8], node: Node) -> bool
 }
 
 // Checks 5 and 9 on an edge record.
-fn check_edge(plan: &Plan, caller: Node, callee: Node) -> Result<(), PlanRefusal>
-    ensures { told_check result ≡ edge_fault plan.now.places plan.now.edges caller.0 callee.0 }
+fn check_edge(places: &[u8], edges: usize, caller: Node, callee: Node) -> Result<(), PlanRefusal>
+    ensures { told_check result ≡ edge_fault places.now edges caller.0 callee.0 }
 {
-    if !has_node(&plan.places, caller) || !has_node(&plan.places, callee) {
+    if !has_node(places, caller) || !has_node(places, callee) {
         return Err(PlanRefusal::NotListed);
     }
-    if plan.edges >= Node::EDGES {
+    if edges >= Node::EDGES {
         return Err(PlanRefusal::TooManyEdges);
     }
     Ok(())
 }
 
-// The checks on one record behind those of a plan so far, in order: 3, 4, 5, 6, 9.
-pub fn check(plan: &Plan, last: PlanRecord, next: PlanRecord) -> Result<(), PlanRefusal>
-    ensures { told_check result ≡ value_fault plan.now.threads plan.now.places plan.now.edges last next }
+// The checks on one record, in order: 3, 4, 5, 6, 9. The sites and nodes so far are lent, of any length, and so many edges are there.
+pub fn check<'a>(
+    threads: &'a [u8],
+    places: &'a [u8],
+    edges: usize,
+    last: PlanRecord,
+    next: PlanRecord,
+) -> Result<(), PlanRefusal>
+    ensures { told_check result ≡ value_fault threads.now places.now edges last next }
 {
     if !follows(last, next) {
         return Err(PlanRefusal::NotRising);
     }
     match next {
         PlanRecord::Site(site, count) => check_site(site, count),
-        PlanRecord::Node(node, site, level) => check_node(&plan.threads, node, site, level),
-        PlanRecord::Edge(caller, callee) => check_edge(plan, caller, callee),
+        PlanRecord::Node(node, site, level) => check_node(threads, node, site, level),
+        PlanRecord::Edge(caller, callee) => check_edge(places, edges, caller, callee),
         PlanRecord::End => Ok(()),
     }
+}
+
+// The same behind the records that a plan holds.
+pub fn check_behind(plan: &Plan, last: PlanRecord, next: PlanRecord) -> Result<(), PlanRefusal>
+    ensures { told_check result ≡ value_fault plan.now.threads plan.now.places plan.now.edges last next }
+{
+    check(&plan.threads, &plan.places, plan.edges, last, next)
 }
 
 // Stores one record more, in place. A record that has no place in the plan leaves it as it was.

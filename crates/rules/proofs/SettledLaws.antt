@@ -74,7 +74,7 @@ module _ {rs : List Record} {cs : List Call} {keys rooms : List ℕ} {used : ℕ
             ∙ ap (λ (l : ℕ). first most_open (between keys (most_threads * s) (most_threads * s + l))) its-limit
             ∙ waiter_is rs cs ok.firm ok.of_keys s
 
-        nobody-there : at ≡ most_open → any (may_wake rs cs s) cs ≡ false
+        pub nobody-there : at ≡ most_open → any (may_wake rs cs s) cs ≡ false
         nobody-there e = not_true_false (any (may_wake rs cs s) cs) (λ q. absurd (below q))
           where
             below : any (may_wake rs cs s) cs ≡ true → ⊥
@@ -86,7 +86,7 @@ module _ {rs : List Record} {cs : List Call} {keys rooms : List ℕ} {used : ℕ
                 let z = found_some (may_wake rs cs s) cs w.0 w.1 w.2 in
                 absurd (omega (arith, place_inside (may_wake rs cs s) cs z.0 z.1, ok.firm.few))
 
-        somebody-there : (at ≡ most_open → ⊥) → false ≡ all (λ c. not (could_go rs cs c)) cs
+        pub somebody-there : (at ≡ most_open → ⊥) → false ≡ all (λ c. not (could_go rs cs c)) cs
         somebody-there ne = sym (not_true_false (all (λ c. not (could_go rs cs c)) cs) (λ q. go (true_or_false (any (may_wake rs cs s) cs)) q))
           where
             go : (any (may_wake rs cs s) cs ≡ true) ⊎ (any (may_wake rs cs s) cs ≡ false) → all (λ c. not (could_go rs cs c)) cs ≡ true → ⊥

@@ -66,7 +66,7 @@ module _ {cs : List Call} {tickets : List ℕ} {used : ℕ} (seen : TicketsSeen 
             there : any (has (get_or tickets i 0)) cs ≡ true
             there = any_there (has (get_or tickets i 0)) cs i nobody room (sym (passes_there (has (get_or tickets i 0)) cs i nobody room) ∙ passes_here)
 
-        twice-fails : (at ≡ i → ⊥) → false ≡ tickets_kept cs
+        pub twice-fails : (at ≡ i → ⊥) → false ≡ tickets_kept cs
         unfolding tickets_kept
         twice-fails elsewhere =
             sym
@@ -76,7 +76,7 @@ module _ {cs : List Call} {tickets : List ℕ} {used : ℕ} (seen : TicketsSeen 
             (subst (λ (t : ℕ). 2 ≤ count (has t) cs) ticket_is
             (more_than_one (has (get_or tickets i 0)) cs i passes_here (λ e. elsewhere (at_is ∙ e)))))))
 
-        own-more : OwnTo cs i → at ≡ i → OwnTo cs (i + 1)
+        pub own-more : OwnTo cs i → at ≡ i → OwnTo cs (i + 1)
         own-more own here j l =
             ⊎_elim (λ (p : j < i). own j p)
             (λ (p : i ≤ j).

@@ -48,7 +48,7 @@ pub fn first_line<'a>(page: &mut Page<'a>, read: PlanRead)
     let plan = read.plan;
     match read.answer {
         Ok(used) => page.plan_line(site_count(plan), node_count(plan), plan.edges, used),
-        Err(fault) => page.plan_refused_line(fault),
+        Err(fault) => page.plan_refused_line(plan::refusal_number(fault.why), fault.offset),
     }
 }
 

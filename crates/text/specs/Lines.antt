@@ -5,6 +5,7 @@ use Rattle.model.specs.Text.{Text, digit, spaced, refusal_text, newline}
 use Rattle.model.specs.Refusal.{refusal_told}
 use Rattle.model.specs.declared.Refusal.{Refusal}
 use Rattle.text.specs.declared.BadInput.{BadInput}
+use Rattle.text.specs.declared.Mark.{Mark}
 use Rattle.text.specs.declared.Printed.{Printed}
 
 -- what stands on a line for an answer: a letter, a number, `R` and a refusal's number, or `W` and a level
@@ -26,6 +27,13 @@ accepted_told (Printed.Number n) = a_number n
 abbrev pub shown_told : Result Printed Refusal → Shown
 shown_told (Ok said) = accepted_told said
 shown_told (Err why) = a_refusal (refusal_told why)
+
+-- the same of any letter, number, refusal and level
+abbrev pub mark_told : Mark → Shown
+mark_told (Mark.Letter b) = a_letter b
+mark_told (Mark.Number n) = a_number n
+mark_told (Mark.Refusal n) = a_refusal n
+mark_told (Mark.Level k) = a_level k
 
 -- the model's answers as they are printed: `G`, `W` and a level, a number; `A`, `W`, `N`; or `R` and a number
 

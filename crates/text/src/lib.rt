@@ -4,12 +4,11 @@
 
 ghost use Rattle.std.specs.Prelude.{◌+◌, ◌≤◌, ◌<◌, ◌≡◌, [], ◌∷◌, length};
 ghost use Rattle.model.specs.Text.{decimal, spaced, plan_line, plan_refused_line, done_line, bad_line};
-ghost use Rattle.model.specs.PlanValue.{refusal_number};
 ghost use Rattle.text.specs.Put.{Put, Puts};
-ghost use Rattle.text.specs.Lines.{bad_number, pair_text, printed, answer_end, accepted_told, shown_told, asked_text};
+ghost use Rattle.text.specs.Lines.{bad_number, pair_text, printed, answer_end, accepted_told, shown_told, mark_told, asked_text};
 ghost use Rattle.text.specs.Room.{number_room, long_room, said_room, answer_room, line_room, plan_room, plan_refused_room, done_room, bad_room, HasRoom};
 
-use model::{ReadFault, Refusal};
+use model::Refusal;
 
 // What an answer says, where it is no refusal.
 #[derive(Clone, Copy, PartialEq, Eq)]
@@ -24,6 +23,15 @@ pub enum Printed {
     Absent,
     // A return's ticket, or a room.
     Number(u16),
+}
+
+// What stands behind the numbers of a line, whatever is said: a letter, a number, `R` and a refusal's number, or `W` and a level.
+#[derive(Clone, Copy, PartialEq, Eq)]
+pub enum Mark {
+    Letter(u8),
+    Number(u16),
+    Refusal(u8),
+    Level(u8),
 }
 
 // Why an input is bad.
@@ -232,6 +240,48 @@ impl<'a> Page<'a> {
         self.answer(what);
     }
 
+    // A letter, a number, a refusal's number behind `R`, or a level behind `W`.
+    fn mark(&mut self, what: Mark)
+        requires { HasRoom self.old said_room }
+        ensures same_reference { self.new.text.ghost_name ≡ self.old.text.ghost_name }
+        ensures put { Puts self.old (printed (mark_told what)) self.new }
+        ensures few { length (printed (mark_told what)) ≤ said_room }
+    {
+        match what {
+            Mark::Letter(letter) => self.letter(letter),
+            Mark::Number(n) => self.number(n),
+            Mark::Refusal(number) => self.marked(b'R', number),
+            Mark::Level(level) => self.marked(b'W', level),
+        }
+    }
+
+    // The same and the line's end.
+    fn mark_end(&mut self, what: Mark)
+        requires { HasRoom self.old answer_room }
+        ensures same_reference { self.new.text.ghost_name ≡ self.old.text.ghost_name }
+        ensures put { Puts self.old (answer_end (mark_told what)) self.new }
+    {
+        self.mark(what);
+        self.put(b'\n');
+    }
+
+    // A line of any letters and numbers: its letter, its one or two numbers and what stands behind them.
+    // A command's line has its own function: through this one it took 9 instructions more.
+    pub fn marked_line(&mut self, word: u8, first: u16, second: Option<u16>, what: Mark)
+        requires { HasRoom self.old line_room }
+        ensures same_reference { self.new.text.ghost_name ≡ self.old.text.ghost_name }
+        ensures put { Puts self.old (asked_text word first second (mark_told what)) self.new }
+    {
+        self.put(word);
+        self.number(first);
+        let Some(next) = second else {
+            self.mark_end(what);
+            return;
+        };
+        self.number(next);
+        self.mark_end(what);
+    }
+
     // The first line, of a plan that is accepted.
     pub fn plan_line(&mut self, sites: usize, nodes: usize, edges: usize, bytes: usize)
         requires { HasRoom self.old plan_room }
@@ -247,14 +297,14 @@ impl<'a> Page<'a> {
     }
 
     // The first line, of a plan that is refused.
-    pub fn plan_refused_line(&mut self, fault: ReadFault)
+    pub fn plan_refused_line(&mut self, refusal: u8, offset: usize)
         requires { HasRoom self.old plan_refused_room }
         ensures same_reference { self.new.text.ghost_name ≡ self.old.text.ghost_name }
-        ensures put { Puts self.old (plan_refused_line (refusal_number fault.why) fault.offset) self.new }
+        ensures put { Puts self.old (plan_refused_line refusal offset) self.new }
     {
         self.puts(b"plan R");
-        self.number(u8::from(fault.why) as u16);
-        self.long_number(fault.offset);
+        self.number(refusal as u16);
+        self.long_number(offset);
         self.put(b'\n');
     }
 
@@ -269,14 +319,14 @@ impl<'a> Page<'a> {
         self.put(b'\n');
     }
 
-    // The last line, of an input that is cut or has a record of no known kind.
-    pub fn bad_line(&mut self, why: BadInput, offset: usize)
+    // The last line, of an input that is bad, and by which number (`BadInput`).
+    pub fn bad_line(&mut self, why: u8, offset: usize)
         requires { HasRoom self.old bad_room }
         ensures same_reference { self.new.text.ghost_name ≡ self.old.text.ghost_name }
-        ensures put { Puts self.old (bad_line (bad_number why) offset) self.new }
+        ensures put { Puts self.old (bad_line why offset) self.new }
     {
         self.puts(b"bad");
-        self.number(u8::from(why) as u16);
+        self.number(why as u16);
         self.long_number(offset);
         self.put(b'\n');
     }

@@ -11,6 +11,7 @@ use Rattle.model.specs.Net.{Call, Core, counts}
 use Rattle.model.specs.Command.{Command, Answer, refused, active, waiting, ended, Outcome, step, Standing, is-running, is-waiting, not_open, ask}
 use Rattle.model.specs.Command.{Roomed, has_room, room_refused, room_at}
 use Rattle.model.specs.Refusal.{refusal_told, refusal_numbered}
+use Rattle.model.specs.Refusals.{net_refusal, plan_refusal}
 use Rattle.model.specs.declared.Plan.{Plan}
 use Rattle.model.specs.declared.Refusal.{Refusal}
 use Rattle.value.specs.View.{core_of, broken}
@@ -51,7 +52,7 @@ value_of p cs = record { plan = p; calls = table_of cs; used = length cs; counts
 
 -- Commands
 
--- an answer as the value of its type, one for one; a refusal by its number
+-- an answer as the value of its type; a refusal by its number, of those in the table one for one
 abbrev pub answer_value : Answer → Result CommandAnswer Refusal
 answer_value (refused n) = Err (refusal_numbered n)
 answer_value active = Ok CommandAnswer.Active
@@ -72,7 +73,7 @@ outcome_value net o = record { answer = answer_value o.answer; net = net_after n
 -- 19 "comes before all others"
 unfoldable pub command_answered : Net → Command → Commanded
 command_answered net command =
-    cond (eqb (broken net) 0) (outcome_value net (step (core_of net) command)) (record { answer = Err Refusal.BrokenNet; net = net })
+    cond (eqb (broken net) 0) (outcome_value net (step (core_of net) command)) (record { answer = Err (refusal_numbered net_refusal); net = net })
 
 -- Questions
 
@@ -82,21 +83,21 @@ standing_value is-waiting = StandingValue.Waiting
 standing_value not_open = StandingValue.NotOpen
 
 unfoldable pub ask_answered : Net → ℕ → Result StandingValue Refusal
-ask_answered net ticket = cond (eqb (broken net) 0) (Ok (standing_value (ask (core_of net) ticket))) (Err Refusal.BrokenNet)
+ask_answered net ticket = cond (eqb (broken net) 0) (Ok (standing_value (ask (core_of net) ticket))) (Err (refusal_numbered net_refusal))
 
 abbrev pub room_value : Roomed → Result ℕ Refusal
 room_value (has_room n) = Ok n
 room_value (room_refused n) = Err (refusal_numbered n)
 
 unfoldable pub room_answered : Net → ℕ → ℕ → Result ℕ Refusal
-room_answered net s k = cond (eqb (broken net) 0) (room_value (room_at (core_of net) s k)) (Err Refusal.BrokenNet)
+room_answered net s k = cond (eqb (broken net) 0) (room_value (room_at (core_of net) s k)) (Err (refusal_numbered net_refusal))
 
 -- Making
 
 -- "18 hands back the empty net of the empty plan"; else the net has no call, over the plan in its one form
 unfoldable pub make_answered : Plan → MadeNet
 make_answered p =
-    record { answer = cond (eqb (plan_fault p) 0) (Ok tt) (Err Refusal.BrokenPlan); net = value_of (checked_plan (plan_fault p) p) [] }
+    record { answer = cond (eqb (plan_fault p) 0) (Ok tt) (Err (refusal_numbered plan_refusal)); net = value_of (checked_plan (plan_fault p) p) [] }
 
 -- An answer's number and its values, as everywhere: 0 where nothing is refused. They are those that the model's answer has (`command_told`,
 -- `ask_told`, `room_told` and `make_told`, of ToldLaws)

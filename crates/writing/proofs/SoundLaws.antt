@@ -42,10 +42,10 @@ module _ (p : Plan) where
     unfolding records_pass
     end_is = whole_is p (passes_ok six (records_of p) (and_right (leb p.edges most_edges) (passes six (records_of p)) good)) found
 
-    end_passes : n ≡ 0 → true ≡ eqb (plan_fault p) 0
+    pub end_passes : n ≡ 0 → true ≡ eqb (plan_fault p) 0
     end_passes none = sym (eq-eqb (plan_fault p) 0 (no_fault.1 (good, sym end_is ∙ none)))
 
-    end_refuses : (n ≡ 0 → ⊥) → false ≡ eqb (plan_fault p) 0
+    pub end_refuses : (n ≡ 0 → ⊥) → false ≡ eqb (plan_fault p) 0
     end_refuses some = sym (ne_eqb (plan_fault p) 0 (λ e. some (end_is ∙ (no_fault.0 e).1)))
 
   pub end_decides : records_pass p ≡ true → (r : Result (Unit {0}) PlanRefusal) → WholeFault p (told_check r) → is_ok r ≡ eqb (plan_fault p) 0

@@ -4,4 +4,4 @@ use Rattle.cycles.proofs.StepLaws.{SteppingRows}
 use Rattle.cycles.proofs.path_rows.Given as goal
 
 abbrev pub invariant-loop-n : goal.invariant-loop-n
-invariant-loop-n l = SteppingRows l.initial.row-items l.row-items l.plan.places l.plan.levels l.n
+invariant-loop-n l = SteppingRows l.initial.row-items l.row-items l.sited.places l.sited.levels l.n

@@ -9,15 +9,15 @@ use Rattle.cycles.proofs.self_depends.Goals as goal
 
 pub returns : goal.returns
 returns c = let p = c.args.plan in
-    let edges = c.call_rows-edges.result.rows in
+    let edges = c.call_rows-calls.result.rows in
     let paths = c.path_rows-paths.result.rows in
     let calls = has_edge (records_of p) in
     let steps = site_steps (records_of p) in
     let sized : Sized p = search rules in
-    let calling : RowsWhole edges calls = record { is = c.call_rows-edges.ensures; whole = search rules; small = λ n. search rules } in
+    let calling : RowsWhole edges calls = record { is = c.call_rows-calls.ensures; whole = search rules; small = λ n. search rules } in
     let pathing : RowsWhole paths (either calls steps) =
     record {
-      is = paths_tell edges paths calls steps c.call_rows-edges.ensures c.path_rows-paths.ensures;
+      is = paths_tell edges paths calls steps c.call_rows-calls.ensures c.path_rows-paths.ensures;
       whole = search rules;
       small = λ n. search rules;
     } in

@@ -11,7 +11,7 @@ use Rattle.cycles.proofs.with_steps.Goals.{then-steps_down, else-steps_down}
 pub loop-m-preserved : goal.loop-m-preserved
 loop-m-preserved c = let a = c.args in
     let m = c.loop-m.m in
-    let steps = steps_in a.plan.now.places a.plan.now.levels a.n in
+    let steps = steps_in a.sited.now.places a.sited.now.levels a.n in
     let inside : m < nodes = omega (arith, c.loop-m-test.true) in
     let told = c.steps_down.ensures in
     elim c.if-steps_down.branch [

@@ -4,4 +4,4 @@ use Rattle.cycles.proofs.StepLaws.{Stepping}
 use Rattle.cycles.proofs.with_steps.Given as goal
 
 abbrev pub invariant-loop-m : goal.invariant-loop-m
-invariant-loop-m l = Stepping l.set l.row (steps_in l.plan.places l.plan.levels l.n) l.m
+invariant-loop-m l = Stepping l.set l.row (steps_in l.sited.places l.sited.levels l.n) l.m

@@ -8,4 +8,4 @@ count-requires c = (_, _, counting (search rules) c.requires.1)
 
 pub returns : goal.returns
 returns c = λ cs ok.
-    rw c.unwrap_or-counts.ensures (packed_is (search rules) ok _ _ (c.count.ensures _ cs (counting (search rules) ok)) (c.join-calls.ensures _ cs ok.joining))
+    packed_is (search rules) ok _ _ c.unwrap_or_else-counts.ensures (c.count.ensures _ cs (counting (search rules) ok)) (c.join-calls.ensures _ cs ok.joining)

@@ -3,6 +3,7 @@
 use native.Mathlib.Omega.{arith}
 use mathlib.Core.Path.{◌∙◌}
 use Rattle.std.proofs.Common.{rules}
+use Rattle.moves.proofs.ServeLaws.{given_told}
 use Rattle.steps.proofs.SeenLaws.{return_seen}
 use Rattle.steps.proofs.StandLaws.{handed_on, stepped_at}
 use Rattle.steps.proofs.LeaveLaws.{gone, at_small, node_listed, site_listed, can_close, limit-told, can_serve, returned, unserved}
@@ -52,4 +53,4 @@ returns c = λ net edges run.
     let closed = c.close.ensures.closed _ _ _ _ (can_close run _ _ said) in
     let left = c.close.ensures.counted in
     let after = c.serve-admitted.ensures.served _ _ (can_serve run _ _ said left closed) in
-    stepped_at c.serve-admitted.new.self.table.used c.serve-admitted.ensures.counted (returned run _ _ said left closed (c.unwrap_or.ensures ∙ after.0, after.1))
+    stepped_at c.serve-admitted.new.self.table.used c.serve-admitted.ensures.counted (returned run _ _ said left closed (c.unwrap_or.ensures ∙ given_told _ after.0, after.1))

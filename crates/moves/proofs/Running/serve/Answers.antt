@@ -1,12 +1,12 @@
 -- `Running::serve` meets its contract. What the search among the keys finds is whom the definitions wake, or nobody; the laws of a waking say what the stores
 -- leave. Assumes nothing.
 use native.Mathlib.Omega.{arith}
-use mathlib.Core.Path.{◌≡◌, refl, ap, ◌∙◌}
+use mathlib.Core.Path.{refl, ◌∙◌}
 use mathlib.Core.List.{List}
-use Rattle.ids.specs.Limits.{most_open, no_ticket}
+use Rattle.ids.specs.Limits.{most_open}
 use Rattle.model.specs.Plan.{Record}
 use Rattle.model.specs.Net.{Call}
-use Rattle.moves.specs.Held.{CanServe, arrays_of, served_told}
+use Rattle.moves.specs.Held.{CanServe, arrays_of}
 use Rattle.moves.proofs.OpenLaws.{site_limited}
 use Rattle.moves.proofs.TableLaws.{tells_table}
 use Rattle.moves.proofs.ServeLaws.{Chosen, chosen-one, chosen_takes, served, unserved}
@@ -20,9 +20,9 @@ pub waiter-requires : goal.waiter-requires
 waiter-requires c = let ok = c.requires.2 in tells_table ok.held.of_keys ok.held.count ok.held.firm.few
 
 pub returns-in_err-next-clause-served : goal.returns-in_err-next-clause-served
-returns-in_err-next-clause-served c = λ rs cs ok. let told : served_told c.from_residual.result ≡ no_ticket = ap served_told c.from_residual.ensures in
+returns-in_err-next-clause-served c = λ rs cs ok.
     let nobody = unserved ok c.base-base.result c.limit.result most_open c.base-base.ensures c.limit.ensures c.in_err-next.ensures refl in
-    (told ∙ nobody.0, nobody.1)
+    (c.from_residual.ensures ∙ nobody.0, nobody.1)
 
 -- the call that was found, whichever net the arrays hold
 found : (c : In_ok-next) {rs : List Record} {cs : List Call}

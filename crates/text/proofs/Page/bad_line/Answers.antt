@@ -1,10 +1,9 @@
 -- `text::Page::bad_line` meets its contract: the word, two numbers and the newline, each with room for what follows. Assumes nothing.
-use Prim.Native.Nat.{ℕ, ◌+◌}
+use Prim.Native.Nat.{◌+◌}
 use native.Mathlib.Omega.{arith}
-use mathlib.Core.Path.{ap}
 use Rattle.model.specs.Text.{bad_line}
 use Rattle.text.specs.Room.{number_room, long_room}
-use Rattle.text.proofs.PutLaws.{put_then, put_as, room_left}
+use Rattle.text.proofs.PutLaws.{put_then, room_left}
 use Rattle.text.proofs.DigitLaws.{spaced_most, spaced_long}
 use Rattle.text.proofs.Page.bad_line.Goals as goal
 
@@ -21,6 +20,4 @@ put-requires c =
 
 pub returns-clause-put : goal.returns-clause-put
 unfolding bad_line
-returns-clause-put c =
-    let told = ap (λ (number : ℕ). bad_line number c.args.offset) c.from.ensures in
-    put_as told (put_then (put_then (put_then c.puts.ensures.put c.number.ensures.put) c.long_number.ensures.put) c.put.ensures.put)
+returns-clause-put c = put_then (put_then (put_then c.puts.ensures.put c.number.ensures.put) c.long_number.ensures.put) c.put.ensures.put

@@ -1,8 +1,0 @@
--- `Rooms::take` meets its contract. The loop's invariant: the rooms of the first k levels are one less. Assumes nothing.
-use Prim.Native.Nat.{◌+◌}
-use Rattle.lists.specs.Fill.{Filled, renewed}
-use Rattle.rooms.specs.Rooms.{one_less}
-use Rattle.rooms.proofs.Rooms.take.Given as goal
-
-abbrev pub invariant-loop-k : goal.invariant-loop-k
-invariant-loop-k l = Filled (renewed one_less l.initial.self.left) l.base (l.base + l.k) l.initial.self.left l.self.left
