@@ -11,9 +11,11 @@ use Rattle.moves.specs.Held.{Tells, ticket_number, parent_number, node_number}
 use Rattle.moves.proofs.TableLaws.{tells_opened}
 use Rattle.value.specs.View.{call_of, spare, first_calls}
 use Rattle.value.specs.declared.Call.{Call as CallValue}
+use Rattle.value.specs.declared.Net.{Net}
 use Rattle.table.specs.Places.{Padded}
+use Rattle.table.specs.declared.Table.{Table}
 use Rattle.lists.proofs.TellLaws.{tell-past}
-use Rattle.apart.specs.Apart.{Holding}
+use Rattle.apart.specs.Apart.{Holding, Numbers, Beside}
 
 module _ (calls : List CallValue) (n : ℕ) where
   pub first-length : length (first_calls calls n) ≡ n
@@ -44,3 +46,12 @@ module _ (calls : List CallValue) (n : ℕ) where
 pub nothing_told : {g : Call → ℕ} (calls : List CallValue) {numbers : List ℕ} {used : ℕ} → Padded numbers used → used ≡ 0 → Tells g (first_calls calls 0) numbers
 nothing_told {g} calls {numbers} {used} p none =
     record { whole = p.whole; each = λ i. p.zeros i (omega arith) ∙ sym (tell-past g (first_calls calls 0) i (omega (arith, first-length calls 0))) }
+
+-- beside other keys stand the same numbers
+pub numbers_beside : (net : Net) {old new : Table} → Beside old new → Numbers net old.tickets old.parents old.nodes → Numbers net new.tickets new.parents new.nodes
+numbers_beside net same held =
+    record {
+      of_tickets = subst (Tells ticket_number (first_calls net.calls net.used)) (sym same.same_tickets) held.of_tickets;
+      of_parents = subst (Tells parent_number (first_calls net.calls net.used)) (sym same.same_parents) held.of_parents;
+      of_nodes = subst (Tells node_number (first_calls net.calls net.used)) (sym same.same_nodes) held.of_nodes;
+    }

@@ -5,6 +5,7 @@ use Rattle.ids.specs.Limits.{most_threads, most_open}
 use Rattle.model.specs.Plan.{Record}
 use Rattle.model.specs.PlanValue.{records_of}
 use Rattle.model.specs.Net.{Call, has_node}
+use Rattle.table.specs.declared.Table.{Table}
 use Rattle.moves.specs.Held.{Tells, ticket_number, parent_number, node_number, key_of}
 use Rattle.value.specs.View.{first_calls}
 use Rattle.value.specs.Handed.{table_of}
@@ -36,6 +37,13 @@ Known net = (c : Call) → Memᴰ c (first_calls net.calls net.used) → has_nod
 
 abbrev pub Keys : Net → List ℕ → Type 0
 Keys net keys = Keyed net net.used keys
+
+-- a table with the same numbers and another's keys
+pub record Beside (old new : Table) : Type 0 where
+  pub same_tickets : new.tickets ≡ old.tickets
+  pub same_parents : new.parents ≡ old.parents
+  pub same_nodes : new.nodes ≡ old.nodes
+  pub same_count : new.used ≡ old.used
 
 -- Together
 

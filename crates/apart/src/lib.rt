@@ -3,9 +3,9 @@
 
 ghost use Rattle.std.specs.Prelude.{◌≡◌, ◌≤◌};
 ghost use Rattle.ids.specs.Limits.{most_open};
-ghost use Rattle.table.specs.Places.{Nothing};
+ghost use Rattle.table.specs.Places.{Nothing, Padded};
 ghost use Rattle.value.specs.View.{call_of};
-ghost use Rattle.apart.specs.Apart.{key_in, Numbers, Known, Keys, Joinable, Joins};
+ghost use Rattle.apart.specs.Apart.{key_in, Numbers, Known, Keys, Beside, Joinable, Joins};
 
 use ids::{Node, Site, Ticket};
 use model::Plan;
@@ -24,12 +24,12 @@ fn key(call: Call, plan: &Plan) -> u16
     base + record::byte(&plan.levels, node) as u16 + 1
 }
 
-// The open calls into a run's table, which holds none yet; their keys are told where every node has a record.
-pub fn fill(net: &Net, table: &mut Table)
+// The numbers of the open calls into a run's table, which holds none yet.
+pub fn numbers(net: &Net, table: &mut Table)
     requires few { net.now.used ≤ most_open }
     requires nothing { Nothing table.old }
     ensures numbered { Numbers net.now table.new.tickets table.new.parents table.new.nodes }
-    ensures keyed { Known net.now → Keys net.now table.new.keys }
+    ensures keyless { table.new.keys ≡ table.old.keys }
     ensures counted { table.new.used ≡ net.now.used }
 {
     for i in 0..net.used {
@@ -37,9 +37,32 @@ pub fn fill(net: &Net, table: &mut Table)
         table.tickets[i] = call.ticket.0;
         table.parents[i] = call.parent.0;
         table.nodes[i] = call.node.0;
-        table.keys[i] = key(call, &net.plan);
     }
     table.used = net.used;
+}
+
+// Their keys beside them; they are told where every node has a record.
+pub fn keys(net: &Net, table: &mut Table)
+    requires few { net.now.used ≤ most_open }
+    requires keyless { Padded table.old.keys 0 }
+    ensures keyed { Known net.now → Keys net.now table.new.keys }
+    ensures beside { Beside table.old table.new }
+{
+    for i in 0..net.used {
+        table.keys[i] = key(net.calls[i], &net.plan);
+    }
+}
+
+// Both, for a net whose calls are not tested in between.
+pub fn fill(net: &Net, table: &mut Table)
+    requires few { net.now.used ≤ most_open }
+    requires nothing { Nothing table.old }
+    ensures numbered { Numbers net.now table.new.tickets table.new.parents table.new.nodes }
+    ensures keyed { Known net.now → Keys net.now table.new.keys }
+    ensures counted { table.new.used ≡ net.now.used }
+{
+    numbers(net, table);
+    keys(net, table);
 }
 
 // The calls that a run's table holds, as a net has them.

@@ -100,8 +100,9 @@ pub fn prepare(net: &Net, edges: &Rows, running: &mut Running) -> Result<(), Net
     ensures { Prepares net.now edges.now.rows running.new result }
 {
     plan_rules(net)?;
-    apart::fill(net, &mut running.table);
+    apart::numbers(net, &mut running.table);
     number_rules(net, &running.table)?;
+    apart::keys(net, &mut running.table);
     call_rules(net, &running.table, edges)?;
     site_rules(net, running)
 }
