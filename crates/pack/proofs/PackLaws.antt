@@ -2,11 +2,12 @@
 -- its site and level. Assumes nothing.
 use Prim.Native.Nat.{ℕ, ◌+◌, ◌*◌, ◌/◌, ◌%◌, ◌≤◌, ◌<◌}
 use native.Mathlib.Omega.{arith}
-use mathlib.Core.Path.{◌≡◌, sym, ap, subst, ◌∙◌}
+use mathlib.Core.Path.{◌≡◌, refl, sym, ap, subst, ◌∙◌}
 use mathlib.Core.Logic.{⊎_elim}
 use mathlib.Core.List.{List}
 use lib.ListN.{get_or}
 use Rattle.std.specs.Prelude.{Option, Some, None, MatchOption}
+use Rattle.std.specs.Option.{unwrap_or}
 use Rattle.ids.specs.Limits.{sites, most_threads}
 use Rattle.lists.proofs.CountLaws.{lt_or_ge}
 use Rattle.lists.proofs.TabledLaws.{tabled-is}
@@ -78,11 +79,21 @@ module _ {plan : Plan} (sized : Sized plan) {cs : List Call} {t : Table} (ok : P
       let there : most_threads * (i / most_threads) + i % most_threads ≡ i = omega arith in
       ap (λ (j : ℕ). get_or numbers j 0) (sym there) ∙ told.each (i / most_threads) (i % most_threads) (omega arith) (omega arith))
 
-  pub packed_is : {calls : List CallValue} (r : Option (List ℕ)) (numbers : List ℕ) → MatchOption r Unit (λ x. numbers ≡ x)
+  -- whatever numbers stand where a count has none
+  pub packed_numbers : {calls : List CallValue} (r : Option (List ℕ)) (numbers : List ℕ) → MatchOption r Unit (λ x. numbers ≡ x)
       → CountTold (records_of plan) cs r → calls ≡ table_of cs
       → ◌≡◌ {A = Net} (record { plan = plan; calls = calls; used = t.used; counts = numbers }) (value_of plan cs)
   unfolding value_of
-  packed_is {calls} r numbers is h e =
+  packed_numbers {calls} r numbers is h e =
       let f = counts-told (counted r numbers is h) in
       let u = ok.joining.count in
       cc
+
+  -- the same where they are given beside the count
+  pub packed_is : {calls : List CallValue} (r : Option (List ℕ)) (spare : List ℕ) → CountTold (records_of plan) cs r → calls ≡ table_of cs
+      → ◌≡◌ {A = Net} (record { plan = plan; calls = calls; used = t.used; counts = unwrap_or r spare }) (value_of plan cs)
+  packed_is r spare h e = packed_numbers r (unwrap_or r spare) (itself r) h e
+    where
+      itself : (o : Option (List ℕ)) → MatchOption o Unit (λ x. unwrap_or o spare ≡ x)
+      itself (Some held) = refl
+      itself None = tt
