@@ -89,7 +89,7 @@ module _ {plan : Plan} (sized : Sized plan) {cs : List Call} {t : Table} (ok : P
       let u = ok.joining.count in
       cc
 
-  -- the same where they are given beside the count
+  -- the same for who gives them beside the count, as a proof over `unwrap_or` has them
   pub packed_is : {calls : List CallValue} (r : Option (List ℕ)) (spare : List ℕ) → CountTold (records_of plan) cs r → calls ≡ table_of cs
       → ◌≡◌ {A = Net} (record { plan = plan; calls = calls; used = t.used; counts = unwrap_or r spare }) (value_of plan cs)
   packed_is r spare h e = packed_numbers r (unwrap_or r spare) (itself r) h e

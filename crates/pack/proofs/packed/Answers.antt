@@ -8,4 +8,5 @@ count-requires c = (_, _, counting (search rules) c.requires.1)
 
 pub returns : goal.returns
 returns c = λ cs ok.
-    packed_numbers (search rules) ok _ _ c.unwrap_or_else-counts.ensures (c.count.ensures _ cs (counting (search rules) ok)) (c.join-calls.ensures _ cs ok.joining)
+    packed_numbers (search rules) ok _ _ c.unwrap_or_else-counts.ensures (c.count.ensures _ cs (counting (search rules) ok))
+    (c.join-calls.ensures _ cs ok.joining)
